@@ -1,0 +1,352 @@
+-- uvlc, su(n) and leb128 keep the laws.
+use mathlib.Core.Path.{_≡_, refl, sym, _∙_, ap, subst}
+use mathlib.Core.List.{[], _∷_, _++_}
+use mathlib.Core.Bool.{Bool, true, false, cond}
+use Prim.Native.Nat.{ℕ, zero, suc, _+_, _-_, _*_, _^_, _/_, _%_, _<_, _≤_}
+use native.Mathlib.Omega.{arith}
+use lib.ListN.{length, length-append, replicate}
+use lib.Dec.{ltb, leb, lit<}
+use native.Mathlib.Nat.{div-lt-iff-lt-mul, pow-suc, zero-div}
+use lib.Pow.{pow-pos, pow-mono}
+use lib.IntN.{ℤ, pos, negsuc}
+use borrow.Author.Tests.{lt-ltb, le-ltb, le-leb, lt-leb, ltb-true, leb-true, ltb-false, leb-false}
+use Rattle.bits.specs.Bits.{Bits, bitAt, toBits}
+use Rattle.bits.specs.Walk.{field, mark, demand, _⊕_, wrote, join, run}
+use Rattle.bits.specs.Codec.{Codec, got, f, absent, choose, _▷_, merged}
+use Rattle.bits.specs.Codes.{countZeros, unary, topBit, uvlc-out, uvlc-in, uvlc, su-out, su-in, su, leb-out, leb-in, tooLong, leb-step, leb128}
+use Rattle.bits.proofs.Numbers.{length-toBits}
+use Rattle.bits.specs.Lawful.{Grade, strict, wants, Lawful, Least, shorter}
+use Rattle.bits.specs.declared.answer.Refusal.the-variants.{Unfit}
+use Rattle.bits.proofs.Laws.{wrote-bits, refused-wrote, stop-got, got-value, got-rest, then-inv, joined, join-inv, passed, passes, join-none, spells-coded, seq-law, choose-law, recode-law, merged-law}
+use Rattle.bits.proofs.Leaves.{f-law, single-law, f-fits, f-length, f-enc, absent-law}
+
+count-front : (m e i z : ℕ) (rest : Bits) → z ≤ m → countZeros m e i (replicate z false ++ true ∷ [] ++ rest) ≡ got z rest
+unfolding countZeros
+count-front m e i zero rest h = refl
+count-front zero e i (suc z) rest h = absurd (omega arith)
+count-front (suc m) e i (suc z) rest h = rw (count-front m e i z rest (omega arith))
+
+count-inv : (m e i : ℕ) (bs : Bits) (z : ℕ) (rest : Bits) → countZeros m e i bs ≡ got z rest → (z ≤ m) × (replicate z false ++ true ∷ [] ++ rest ≡ bs)
+unfolding countZeros
+count-inv m e i [] z rest h = absurd (stop-got h)
+count-inv m e i (true ∷ bs) z rest h = rw (← (got-value h), ← (got-rest h)) (omega arith, refl)
+count-inv zero e i (false ∷ bs) z rest h = absurd (stop-got h)
+count-inv (suc m) e i (false ∷ bs) z rest h =
+    let u = then-inv (countZeros m e i bs) (λ z rest. got (suc z) rest) z rest h in
+    let v = count-inv m e i bs (u .0) (u .1) (u .2) in
+    step m bs (u .0) z (u .1) rest (u .3) (v .0) (v .1)
+  where
+    step : (m : ℕ) (bs : Bits) (y z : ℕ) (r rest : Bits) → got (suc y) r ≡ got z rest → y ≤ m → replicate y false ++ true ∷ [] ++ r ≡ bs → (z ≤ suc m) × (replicate z false ++ true ∷ [] ++ rest ≡ false ∷ bs)
+    step m bs y z r rest g l e = rw (← (got-value g), ← (got-rest g)) (omega arith, ap (λ (t : Bits). false ∷ t) e)
+
+pub no-bits : (z : ℕ) → toBits z 0 ≡ replicate z false
+unfolding toBits bitAt
+no-bits zero = refl
+no-bits (suc z) = rw (zero-div (2 ^ z)) (ap (λ (bs : Bits). false ∷ bs) (no-bits z))
+
+zeros-one : (z : ℕ) → run (field z 0 0 0 ⊕ mark true) ≡ wrote (replicate z false ++ true ∷ [])
+unfolding run join
+zeros-one z = rw (lt-ltb 0 (2 ^ z) (pow-pos z), no-bits z)
+
+unary-reads : (m e i z : ℕ) (bs rest : Bits) → z ≤ m → replicate z false ++ true ∷ [] ≡ bs → countZeros m e i (bs ++ rest) ≡ got z rest
+unary-reads m e i z bs rest l h = rw (← h) (count-front m e i z rest l)
+
+unary-inv : (m e i z : ℕ) (bs : Bits) → run (demand (leb z m) (Unfit e i) ⊕ field z 0 0 0 ⊕ mark true) ≡ wrote bs → (z ≤ m) × (replicate z false ++ true ∷ [] ≡ bs)
+unfolding run
+unary-inv m e i z bs h =
+    let t = passed (leb z m) (Unfit e i) h in
+    (leb-true z m (t .0), wrote-bits (sym (zeros-one z) ∙ t .1))
+
+pub unary-law : {g : Grade} (m e i : ℕ) → Lawful g (unary m e i)
+unfolding unary run
+unary-law m e i = single-law _ _
+    (λ z bs rest h. let t = unary-inv m e i z bs h in unary-reads m e i z bs rest (t .0) (t .1))
+    (λ bs z rest h. let t = count-inv m e i bs z rest h in (replicate z false ++ true ∷ [], passes (Unfit e i) (le-leb z m (t .0)) (zeros-one z), t .1))
+
+-- as many zeros as may be
+pub unary-fits : (m e i z : ℕ) (bs : Bits) → (unary m e i) .spells z bs → z ≤ m
+unfolding unary
+unary-fits m e i z bs s = unary-inv m e i z bs s .0
+
+top-le : (k w : ℕ) → 1 ≤ w → 2 ^ topBit k w ≤ w
+unfolding topBit
+top-le zero w h = h
+top-le (suc k) w h = go (leb (2 ^ suc k) w) refl (top-le k w h)
+  where
+    go : (b : Bool) → leb (2 ^ suc k) w ≡ b → 2 ^ topBit k w ≤ w → 2 ^ cond b (suc k) (topBit k w) ≤ w
+    go true e h = leb-true (2 ^ suc k) w e
+    go false e h = h
+
+top-at : (k z w : ℕ) → z ≤ k → 2 ^ z ≤ w → w < 2 ^ suc z → topBit k w ≡ z
+unfolding topBit
+top-at zero z w h l u = omega arith
+top-at (suc k) z w h l u = go (leb z k) refl (top-at k z w)
+  where
+    go : (b : Bool) → leb z k ≡ b → (z ≤ k → 2 ^ z ≤ w → w < 2 ^ suc z → topBit k w ≡ z) → topBit (suc k) w ≡ z
+    go true e ih =
+        let zk : z ≤ k = leb-true z k e in
+        let p : 2 ^ suc z ≤ 2 ^ suc k = pow-mono (omega arith) in
+        rw (lt-leb (2 ^ suc k) w (omega arith)) (ih zk l u)
+    go false e ih =
+        let zk : k < z = leb-false z k e in
+        let q : z ≡ suc k = omega arith in
+        rw (le-leb (2 ^ suc k) w (rw q at l)) (sym q)
+
+uvlc-back : (z x : ℕ) → z ≤ 31 → x < 2 ^ z → uvlc-out (2 ^ z + x - 1) ≡ (z, x)
+uvlc-back z x h l =
+    let p = pow-pos z in
+    let e : 2 ^ z + x - 1 + 1 ≡ 2 ^ z + x = omega arith in
+    let u : 2 ^ z + x < 2 ^ suc z = omega arith in
+    let t : topBit 32 (2 ^ z + x) ≡ z = top-at 32 z (2 ^ z + x) (omega arith) (omega arith) u in
+    let d : 2 ^ z + x - 2 ^ z ≡ x = omega arith in
+    rw (e, t, d)
+
+uvlc-there : (v : ℕ) → 2 ^ topBit 32 (v + 1) + (v + 1 - 2 ^ topBit 32 (v + 1)) - 1 ≡ v
+uvlc-there v = let h = top-le 32 (v + 1) (omega arith) in omega arith
+
+pub uvlc-law : {g : Grade} (e i : ℕ) → Lawful g (uvlc e i)
+unfolding uvlc _▷_ unary f
+uvlc-law e i = recode-law uvlc-out uvlc-in (seq-law (unary-law 31 e i) (λ z. f-law z e i))
+    (λ p bs s. uvlc-back (p .0) (p .1) (unary-fits 31 e i (p .0) (s .0) (s .2)) (f-fits (p .0) e i (p .1) (s .1) (s .3)))
+    (λ v bs s. uvlc-there v)
+
+su-back : (n v : ℕ) → v < 2 ^ n → su-out n (su-in n v) ≡ v
+su-back n v h = go (ltb (v * 2) (2 ^ n)) refl
+  where
+    go : (b : Bool) → ltb (v * 2) (2 ^ n) ≡ b → su-out n (cond b (pos v) (negsuc (2 ^ n - suc v))) ≡ v
+    go true e = rw e
+    go false e =
+        let l = ltb-false (v * 2) (2 ^ n) e in
+        rw (le-leb (suc (2 ^ n - suc v) * 2) (2 ^ n) (omega arith)) (omega arith)
+
+su-there : (n : ℕ) (z : ℤ) → su-out n z < 2 ^ n → su-in n (su-out n z) ≡ z
+su-there n (pos m) h = go (ltb (m * 2) (2 ^ n)) refl h
+  where
+    go : (b : Bool) → ltb (m * 2) (2 ^ n) ≡ b → cond b m (2 ^ n) < 2 ^ n → su-in n (cond b m (2 ^ n)) ≡ pos m
+    go true e h = rw e
+    go false e h = absurd (omega arith)
+su-there n (negsuc m) h = go (leb (suc m * 2) (2 ^ n)) refl h
+  where
+    go : (b : Bool) → leb (suc m * 2) (2 ^ n) ≡ b → cond b (2 ^ n - suc m) (2 ^ n) < 2 ^ n → su-in n (cond b (2 ^ n - suc m) (2 ^ n)) ≡ negsuc m
+    go true e h =
+        let l = leb-true (suc m * 2) (2 ^ n) e in
+        let d : 2 ^ n - suc (2 ^ n - suc m) ≡ m = omega arith in
+        rw (le-ltb ((2 ^ n - suc m) * 2) (2 ^ n) (omega arith), d)
+    go false e h = absurd (omega arith)
+
+pub su-law : {g : Grade} (n e i : ℕ) → Lawful g (su n e i)
+unfolding su f
+su-law n e i = recode-law (su-out n) (su-in n) (f-law n e i)
+    (λ v bs s. su-back n v (f-fits n e i v bs s))
+    (λ z bs s. su-there n z (f-fits n e i (su-out n z) bs s))
+
+pub tooLong-law : {g : Grade} → Lawful g tooLong
+unfolding tooLong run
+tooLong-law = record {
+  own = λ n bs h. refused-wrote h;
+  complete = λ n bs rest s. absurd s;
+  sound = λ bs n rest h. absurd (stop-got h);
+  idem = λ n. refl;
+  blind = λ n. refl;
+  least = λ w n bs s. absurd s;
+}
+
+pub step-law : {g : Grade} (c : Codec ℕ) → Lawful g c → Lawful g (leb-step c)
+unfolding leb-step
+step-law c C = seq-law (f-law 8 0 0) λ b. choose-law (ltb b 128) (absent-law 0) C
+
+leb-whole : (n : ℕ) → leb-in (leb-out n) ≡ n
+leb-whole n = go (ltb n 128) refl
+  where
+    go : (b : Bool) → ltb n 128 ≡ b → leb-in (cond b (n, 0) (128 + n % 128, n / 128)) ≡ n
+    go true e = rw e
+    go false e = rw (le-ltb (128 + n % 128) 128 (omega arith)) (omega arith)
+
+pub leb-id : (k n : ℕ) → leb128 k .coded n ≡ n
+unfolding leb128 tooLong merged
+leb-id zero n = refl
+leb-id (suc k) n = refl
+
+-- what a byte and a rest code stands for the same number
+leb-coded : (k : ℕ) (p : ℕ × ℕ) → leb-in (leb-step (leb128 k) .coded p) ≡ leb-in p
+unfolding leb-step _▷_ choose f absent
+leb-coded k p = go (ltb (p .0) 128) refl
+  where
+    go : (b : Bool) → ltb (p .0) 128 ≡ b → leb-in (p .0, cond b 0 (leb128 k .coded (p .1))) ≡ leb-in p
+    go true e = rw e
+    go false e = rw (leb-id k (p .1))
+
+leb-long : (k n : ℕ) (bs : Bits) → leb128 k .spells n bs → 8 ≤ length bs
+unfolding leb128 leb-step _▷_ tooLong merged
+leb-long zero n bs s = absurd s
+leb-long (suc k) n bs s = go (s .2 .0) (s .2 .1) (f-length 8 0 0 (s .0 .0) (s .2 .0) (s .2 .2)) (s .2 .4)
+  where
+    go : (x y : Bits) → length x ≡ 8 → x ++ y ≡ bs → 8 ≤ length bs
+    go x y l e = rw (← e, length-append) (omega arith)
+
+-- the bytes that go on are the ones that are written, if the number needs them
+leb-out-eq : (b m n : ℕ) → b - 128 + m * 128 ≡ n → 128 ≤ b → b < 256 → 128 ≤ n → leb-out n ≡ (b, m)
+leb-out-eq b m n e l u h =
+    let d : n / 128 ≡ m = omega arith in
+    let r : 128 + n % 128 ≡ b = omega arith in
+    rw (le-ltb n 128 h, d, r)
+
+leb-short : (k n : ℕ) → n < 128 → run (leb-step (leb128 k) .enc (n, 0)) ≡ wrote (toBits 8 n)
+unfolding leb-step _▷_ choose absent f run
+leb-short k n h = rw (lt-ltb n 128 h) (join-none (f-enc 8 0 0 n (omega arith)))
+
+leb-out-short : (n : ℕ) → n < 128 → leb-out n ≡ (n, 0)
+leb-out-short n h = rw (lt-ltb n 128 h)
+
+leb-least : {g : Grade} → wants g → (k n : ℕ) (C : Lawful g (leb128 k)) (p : ℕ × ℕ) (bs : Bits) → leb-in p ≡ n → leb-step (leb128 k) .spells p bs → (es : Bits) × (run (leb-step (leb128 k) .enc (leb-out n)) ≡ wrote es) × Least es bs
+unfolding leb-step _▷_ choose f absent
+leb-least {g} w k n C p bs e s = go (ltb (p .0) 128) refl (ltb n 128) refl (s .3)
+  where
+    S : Lawful g (leb-step (leb128 k))
+    S = step-law (leb128 k) C
+
+    -- the pair that is written is the pair that was read
+    as-read : (q : ℕ × ℕ) → leb-out n ≡ q → leb-step (leb128 k) .spells q bs → (es : Bits) × (run (leb-step (leb128 k) .enc (leb-out n)) ≡ wrote es) × Least es bs
+    as-read q h t = subst (λ (r : ℕ × ℕ). (es : Bits) × (run (leb-step (leb128 k) .enc r) ≡ wrote es) × Least es bs) (sym h) (S .least w q bs t)
+
+    two : (x y : Bits) → length x ≡ 8 → 8 ≤ length y → x ++ y ≡ bs → length (toBits 8 n) + 8 ≤ length bs
+    two x y l m q = rw (← q, length-append, length-toBits 8 n) (omega arith)
+
+    go : (b : Bool) → ltb (p .0) 128 ≡ b → (d : Bool) → ltb n 128 ≡ d → cond b (wrote [] ≡ wrote (s .1)) (leb128 k .spells (p .1) (s .1)) → (es : Bits) × (run (leb-step (leb128 k) .enc (leb-out n)) ≡ wrote es) × Least es bs
+    go true h d g t =
+        let m : leb-in p ≡ p .0 = rw h in
+        let lt = ltb-true (p .0) 128 h in
+        let o : leb-out n ≡ leb-step (leb128 k) .coded p = rw (← e, m, h) in
+        as-read (leb-step (leb128 k) .coded p) o (spells-coded S p bs s)
+    go false h true g t =
+        let lt = ltb-true n 128 g in
+        (toBits 8 n, rw (leb-out-short n lt) (leb-short k n lt), shorter (two (s .0) (s .1) (f-length 8 0 0 (p .0) (s .0) (s .2)) (leb-long k (p .1) (s .1) t) (s .4)))
+    go false h false g t =
+        let m : leb-in p ≡ p .0 - 128 + p .1 * 128 = rw h in
+        as-read p (leb-out-eq (p .0) (p .1) n (sym m ∙ e) (ltb-false (p .0) 128 h) (f-fits 8 0 0 (p .0) (s .0) (s .2)) (ltb-false n 128 g)) s
+
+pub leb-law : {g : Grade} (k : ℕ) → Lawful g (leb128 k)
+unfolding leb128
+leb-law {g} zero = tooLong-law
+leb-law {g} (suc k) =
+    let C = leb-law {g = g} k in
+    merged-law leb-out leb-in (step-law (leb128 k) C) leb-whole (leb-coded k) (λ w n p bs e s. leb-least w k n C p bs e s)
+
+-- a number of more than seven bits goes on
+leb-goes : (k n : ℕ) → 128 ≤ n → run (leb-step (leb128 k) .enc (leb-out n)) ≡ join (wrote (toBits 8 (128 + n % 128))) (run (leb128 k .enc (n / 128)))
+unfolding leb-step _▷_ choose f absent run
+leb-goes k n h =
+    let u : 128 + n % 128 < 256 = omega arith in
+    let l : 128 ≤ 128 + n % 128 = omega arith in
+    rw (le-ltb n 128 h, lt-ltb (128 + n % 128) 256 u, le-ltb (128 + n % 128) 128 l)
+
+-- a smaller number takes no more bytes
+pub leb-mono : (k a b : ℕ) (y : Bits) → a ≤ b → run (leb128 k .enc b) ≡ wrote y → (x : Bits) × (run (leb128 k .enc a) ≡ wrote x) × (length x ≤ length y)
+unfolding leb128 tooLong merged run
+leb-mono zero a b y h e = absurd (refused-wrote e)
+leb-mono (suc k) a b y h e = go (ltb a 128) refl (λ z q. leb-mono k (a / 128) (b / 128) z (omega arith) q)
+  where
+    go : (t : Bool) → ltb a 128 ≡ t → ((z : Bits) → run (leb128 k .enc (b / 128)) ≡ wrote z → (x : Bits) × (run (leb128 k .enc (a / 128)) ≡ wrote x) × (length x ≤ length z))
+        → (x : Bits) × (run (leb-step (leb128 k) .enc (leb-out a)) ≡ wrote x) × (length x ≤ length y)
+    go true g ih =
+        let lt = ltb-true a 128 g in
+        (toBits 8 a, rw (leb-out-short a lt) (leb-short k a lt), rw (length-toBits 8 a) (leb-long (suc k) b y (leb-law {g = strict} (suc k) .own b y e)))
+    go false g ih =
+        let l = ltb-false a 128 g in
+        let j = join-inv (wrote (toBits 8 (128 + b % 128))) (run (leb128 k .enc (b / 128))) y (sym (leb-goes k b (omega arith)) ∙ e) in
+        let r = ih (j .1) (j .3) in (
+          toBits 8 (128 + a % 128) ++ r .0,
+          leb-goes k a l ∙ joined refl (r .1),
+          rw (length-append, length-toBits 8 (128 + a % 128)) (more (j .0) (j .1) (r .0) (ap length (sym (wrote-bits (j .2))) ∙ length-toBits 8 (128 + b % 128)) (j .4) (r .2)),
+        )
+      where
+        more : (p q r : Bits) → length p ≡ 8 → p ++ q ≡ y → length r ≤ length q → 8 + length r ≤ length y
+        more p q r l e h = rw (← e, length-append, l) (omega arith)
+
+-- a size takes whole bytes
+pub leb-length : (k n : ℕ) (bs : Bits) → leb128 k .spells n bs → (j : ℕ) × (length bs ≡ j * 8)
+unfolding leb128 leb-step _▷_ tooLong choose f absent merged
+leb-length zero n bs s = absurd s
+leb-length (suc k) n bs s = go (ltb (s .0 .0) 128) (s .2 .0) (s .2 .1) (f-length 8 0 0 (s .0 .0) (s .2 .0) (s .2 .2)) (s .2 .4) (λ y t. leb-length k (s .0 .1) y t) (s .2 .3)
+  where
+    more : (x y : Bits) (j : ℕ) → length x ≡ 8 → x ++ y ≡ bs → length y ≡ j * 8 → length bs ≡ suc j * 8
+    more x y j l e h = rw (← e, length-append) (omega arith)
+
+    go : (b : Bool) (x y : Bits) → length x ≡ 8 → x ++ y ≡ bs → ((y : Bits) → leb128 k .spells (s .0 .1) y → (j : ℕ) × (length y ≡ j * 8))
+        → cond b (wrote [] ≡ wrote y) (leb128 k .spells (s .0 .1) y) → (j : ℕ) × (length bs ≡ j * 8)
+    go true x y l e ih t = (1, more x y 0 l e (ap length (sym (wrote-bits t))))
+    go false x y l e ih t = let r = ih y t in (suc (r .0), more x y (r .0) l e (r .1))
+
+-- a number below 128^k is written in k bytes
+pub leb-total : (k n : ℕ) → n < 128 ^ k → 0 < k → (y : Bits) × (run (leb128 k .enc n) ≡ wrote y)
+unfolding leb128 merged
+leb-total zero n h p = absurd (omega arith)
+leb-total (suc k) n h p = go (ltb n 128) refl (ltb 0 k) refl (leb-total k (n / 128))
+  where
+    go : (b : Bool) → ltb n 128 ≡ b → (d : Bool) → ltb 0 k ≡ d → (n / 128 < 128 ^ k → 0 < k → (y : Bits) × (run (leb128 k .enc (n / 128)) ≡ wrote y)) → (y : Bits) × (run (leb-step (leb128 k) .enc (leb-out n)) ≡ wrote y)
+    go true e d z ih = let l = ltb-true n 128 e in (toBits 8 n, rw (leb-out-short n l) (leb-short k n l))
+    go false e true z ih =
+        let l = ltb-false n 128 e in
+        let r = ih (div-lt-iff-lt-mul (lit< tt) .1 (rw (pow-suc 128 k) at h)) (ltb-true 0 k z) in
+        (toBits 8 (128 + n % 128) ++ r .0, leb-goes k n l ∙ joined refl (r .1))
+    go false e false z ih =
+        let l = ltb-false n 128 e in
+        let q = ltb-false 0 k z in
+        let o : k ≡ 0 = omega arith in
+        let b : n < 128 ^ suc 0 = rw o at h in
+        absurd (omega arith)
+
+-- How a loop finds the highest one.
+module _ (k w p : ℕ) where
+  pub top-here : topBit k w ≡ topBit 32 w → 0 < k → p ≡ 2 ^ k → p ≤ w → k ≡ topBit 32 w
+  unfolding topBit
+  top-here e l q h = sym (go k l (rw q at h)) ∙ e
+    where
+      go : (k : ℕ) → 0 < k → 2 ^ k ≤ w → topBit k w ≡ k
+      go zero l h = absurd (omega arith)
+      go (suc k) l h = rw (le-leb (2 ^ suc k) w h)
+
+  pub top-below : topBit k w ≡ topBit 32 w → 0 < k → p ≡ 2 ^ k → w < p → topBit (k - 1) w ≡ topBit 32 w
+  unfolding topBit
+  top-below e l q h = sym (go k l (rw q at h)) ∙ e
+    where
+      go : (k : ℕ) → 0 < k → w < 2 ^ k → topBit k w ≡ topBit (k - 1) w
+      go zero l h = absurd (omega arith)
+      go (suc k) l h = let j : k ≡ suc k - 1 = omega arith in rw (lt-leb (2 ^ suc k) w h) (ap (λ (j : ℕ). topBit j w) j)
+
+pub top-none : (k w : ℕ) → topBit k w ≡ topBit 32 w → k ≤ 0 → 0 ≡ topBit 32 w
+unfolding topBit
+top-none zero w e h = e
+top-none (suc k) w e h = absurd (omega arith)
+
+-- What uvlc's code asks: with z the place of the highest one of v + 1.
+pub top-takes : (v z p : ℕ) → v < 2 ^ 32 → z ≡ topBit 32 (v + 1) → p ≡ 2 ^ z → (p ≤ v + 1) × (v + 1 - p < 2 ^ 32)
+top-takes v z p l e q =
+    let h : p ≤ v + 1 = rw (q, e) (top-le 32 (v + 1) (omega arith)) in
+    let g : 1 ≤ p = rw q (pow-pos z) in
+    (h, omega arith)
+
+-- The bytes of leb128, as its loop writes them.
+pub leb-more : (k n m : ℕ) → 128 ≤ n → n < 128 ^ k → n / 128 ≡ m → (0 < k - 1) × (m < 128 ^ (k - 1)) × (run (field 8 (128 + n % 128) 0 0 ⊕ leb128 (k - 1) .enc m) ≡ run (leb128 k .enc n))
+unfolding leb128 merged leb-step _▷_ choose f absent run
+leb-more zero n m l h e = absurd (omega arith)
+leb-more (suc zero) n m l h e = absurd (omega arith)
+leb-more (suc (suc k)) n m l h e =
+    let j : suc (suc k) - 1 ≡ suc k = omega arith in
+    let u : 128 + n % 128 < 256 = omega arith in
+    let o : 128 ≤ 128 + n % 128 = omega arith in
+    (omega arith, rw (← e, j) (div-lt-iff-lt-mul (lit< tt) .1 (rw (pow-suc 128 (suc k)) at h)), rw (← e, j, le-ltb n 128 l, le-ltb (128 + n % 128) 128 o))
+
+pub leb-last : (k n : ℕ) → n < 128 → n < 128 ^ k → 0 < k → run (field 8 n 0 0) ≡ run (leb128 k .enc n)
+unfolding leb128 merged f run
+leb-last zero n l h p = absurd (omega arith)
+leb-last (suc k) n l h p = f-enc 8 0 0 n (omega arith) ∙ sym (rw (leb-out-short n l) (leb-short k n l))
+
+pub top-most : (k w : ℕ) → topBit k w ≤ k
+unfolding topBit
+top-most zero w = omega arith
+top-most (suc k) w = go (leb (2 ^ suc k) w) (top-most k w)
+  where
+    go : (b : Bool) → topBit k w ≤ k → cond b (suc k) (topBit k w) ≤ suc k
+    go true h = omega arith
+    go false h = omega arith

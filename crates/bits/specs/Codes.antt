@@ -1,0 +1,65 @@
+-- The codes of numbers beside f(n): uvlc (4.10.3), su(n) (4.10.6) and leb128 (4.10.5), as document 01 puts them.
+use mathlib.Core.List.{[], _∷_}
+use mathlib.Core.Bool.{true, false, cond}
+use Prim.Native.Nat.{ℕ, zero, suc, _+_, _-_, _*_, _^_, _/_, _%_}
+use lib.Dec.{ltb, leb}
+use lib.IntN.{ℤ, pos, negsuc}
+use Rattle.bits.specs.Bits.{Bits}
+use Rattle.bits.specs.Walk.{field, mark, demand, refuse, _⊕_}
+use Rattle.bits.specs.Codec.{Codec, Got, got, stop, andThen, single, f, absent, choose, _▷_, recode, merged}
+use Rattle.bits.specs.declared.answer.Refusal.the-variants.{Inconsistent, Unfit, Ends, Size}
+
+-- z zeros and a one, at most m zeros: writing more is refusal 2, and reading zero m + 1 is refusal 1
+unfoldable pub countZeros : ℕ → ℕ → ℕ → Bits → Got ℕ
+countZeros m e i [] = stop Ends
+countZeros m e i (true ∷ bs) = got 0 bs
+countZeros zero e i (false ∷ bs) = stop (Inconsistent e i)
+countZeros (suc m) e i (false ∷ bs) = andThen (countZeros m e i bs) (λ z rest. got (suc z) rest)
+
+unfoldable pub unary : ℕ → ℕ → ℕ → Codec ℕ
+unary m e i = single (λ z. demand (leb z m) (Unfit e i) ⊕ field z 0 0 0 ⊕ mark true) (countZeros m e i)
+
+-- the place of the highest one of w, up to k
+unfoldable pub topBit : ℕ → ℕ → ℕ
+topBit zero w = zero
+topBit (suc k) w = cond (leb (2 ^ suc k) w) (suc k) (topBit k w)
+
+-- uvlc: v + 1 is 2^z + x: z zeros, a one, x in z bits
+abbrev pub uvlc-out : ℕ → ℕ × ℕ
+uvlc-out v = (topBit 32 (v + 1), v + 1 - 2 ^ topBit 32 (v + 1))
+
+abbrev pub uvlc-in : ℕ × ℕ → ℕ
+uvlc-in p = 2 ^ p .0 + p .1 - 1
+
+unfoldable pub uvlc : ℕ → ℕ → Codec ℕ
+uvlc e i = recode uvlc-out uvlc-in (unary 31 e i ▷ λ z. f z e i)
+
+-- su(n): two's complement in n bits; a number out of range goes to 2^n, which no n bits hold. (`pos m` is m, and `negsuc m` is -(m + 1).)
+abbrev pub su-out : ℕ → ℤ → ℕ
+su-out n (pos m) = cond (ltb (m * 2) (2 ^ n)) m (2 ^ n)
+su-out n (negsuc m) = cond (leb (suc m * 2) (2 ^ n)) (2 ^ n - suc m) (2 ^ n)
+
+abbrev pub su-in : ℕ → ℕ → ℤ
+su-in n v = cond (ltb (v * 2) (2 ^ n)) (pos v) (negsuc (2 ^ n - suc v))
+
+unfoldable pub su : ℕ → ℕ → ℕ → Codec ℤ
+su n e i = recode (su-out n) (su-in n) (f n e i)
+
+-- leb128: seven bits a byte, the low ones first; a byte of 128 and more goes on
+abbrev pub leb-out : ℕ → ℕ × ℕ
+leb-out n = cond (ltb n 128) (n, 0) (128 + n % 128, n / 128)
+
+abbrev pub leb-in : ℕ × ℕ → ℕ
+leb-in p = cond (ltb (p .0) 128) (p .0) (p .0 - 128 + p .1 * 128)
+
+unfoldable pub leb-step : Codec ℕ → Codec (ℕ × ℕ)
+leb-step more = f 8 0 0 ▷ λ b. choose (ltb b 128) (absent 0) more
+
+-- no byte is left to go on with
+unfoldable pub tooLong : Codec ℕ
+tooLong = record { enc = λ _. refuse Size; dec = λ _. stop Size; coded = λ n. n; spells = λ _ _. ⊥ }
+
+-- leb128 in at most k bytes
+unfoldable pub leb128 : ℕ → Codec ℕ
+leb128 zero = tooLong
+leb128 (suc k) = merged leb-out leb-in (leb-step (leb128 k))

@@ -1,0 +1,8 @@
+pub mod Elements
+pub mod Bits
+pub mod Blend
+pub mod Walk
+pub mod Codec
+pub mod Codes
+pub mod Lawful
+pub mod Answers

@@ -1,0 +1,96 @@
+// Powers of two, the highest one of a number, and signs: the arithmetic of the codes.
+ghost use mathlib.Core.Path.{_≡_};
+ghost use lib.Dec.{ltb};
+ghost use lib.Signed.{mag};
+ghost use Prim.Native.Nat.{min, _<_, _≤_, _/_, _^_};
+ghost use Rattle.bits.specs.Codes.{topBit, uvlc-in, su-out, su-in};
+
+pub fn smaller(a: u32, b: u32) -> u32
+    ensures { λ r. ⌜ r ≡ min a b ⌝ }
+{
+    if a < b { a } else { b }
+}
+
+pub fn pow2(n: u32) -> u64
+    requires { ⌜ n ≤ 32 ⌝ }
+    ensures { λ r. ⌜ r ≡ 2 ^ n ⌝ }
+{
+    1u64 << n
+}
+
+// v without its k low bits, 0 where there are no others.
+pub fn above(v: u32, k: u32) -> u64
+    ensures { λ r. ⌜ r ≡ v / 2 ^ k ⌝ }
+{
+    let w = v as u64;
+    if k < 64 { w >> k } else { 0 }
+}
+
+// Whether v has at most n bits.
+pub fn fits(v: u32, n: u32) -> bool
+    ensures { λ r. ⌜ r ≡ ltb v (2 ^ n) ⌝ }
+{
+    if n < 32 { v >> n == 0 } else { true }
+}
+
+// The place of the highest one of w.
+pub fn top_bit(w: u64) -> u32
+    ensures { λ r. ⌜ r ≡ topBit 32 w ⌝ }
+    ensures { λ r. ⌜ r ≤ 32 ⌝ }
+{
+    let mut k: u32 = 32;
+    while 0 < k {
+        if pow2(k) <= w {
+            return k;
+        }
+        k -= 1;
+    }
+    0
+}
+
+// The number that uvlc codes as z zeros, a one and v in z bits.
+pub fn uvlc_value(z: u32, v: u32) -> u32
+    requires { ⌜ (z ≤ 31) × (v < 2 ^ z) ⌝ }
+    ensures { λ r. ⌜ r ≡ uvlc-in (z, v) ⌝ }
+{
+    (pow2(z) + v as u64 - 1) as u32
+}
+
+// a for a number a, and m for -(m + 1): how far it is from the change of sign.
+pub fn magnitude(v: i32) -> u32
+    ensures { λ r. ⌜ r ≡ mag v ⌝ }
+{
+    if v < 0 { (-1 - v) as u32 } else { v as u32 }
+}
+
+// v in n bits of two's complement, or 2^n where it is out of range.
+pub fn su_code(v: i32, n: u32) -> u32
+    requires { ⌜ n ≤ 32 ⌝ }
+    ensures { λ r. ⌜ r ≡ su-out n v ⌝ }
+{
+    let m = magnitude(v) as u64;
+    let all = pow2(n);
+    if v < 0 {
+        if (m + 1) * 2 <= all {
+            return (all - (m + 1)) as u32;
+        }
+        return all as u32;
+    }
+    if m * 2 < all {
+        return m as u32;
+    }
+    all as u32
+}
+
+// The number whose two's complement in n bits is v.
+pub fn su_value(v: u32, n: u32) -> i32
+    requires { ⌜ (n ≤ 32) × (v < 2 ^ n) ⌝ }
+    ensures { λ r. ⌜ r ≡ su-in n v ⌝ }
+{
+    let w = v as u64;
+    let all = pow2(n);
+    if w * 2 < all {
+        return v as i32;
+    }
+    -1 - (all - (w + 1)) as i32
+}
