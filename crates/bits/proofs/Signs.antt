@@ -107,13 +107,13 @@ pub su-by : (n w : ℕ) (z : ℤ) (k e i : ℕ) {c : Cursor} {xs ys : List ℕ} 
 unfolding su recode f
 su-by n w z k e i h p q g = rw (← p, ← (rw (same w32 z h) at q)) g
 
--- a number of fewer bits, widened
-pub fits-wide : (w : Width) → T (leb (hbits w) 31) → (z : ℤ) → SFits w z → SFits w32 (toZ w (ofZ w z))
-fits-wide w t z h = rw (same w z h) (sfits-widen {w = w} {w′ = w32} t h)
+-- a number of w bits, widened to v bits
+module _ (w v : Width) (t : T (leb (hbits w) (hbits v))) (z : ℤ) (h : SFits w z) where
+  pub wide-fits : SFits v (toZ w (ofZ w z))
+  wide-fits = rw (same w z h) (sfits-widen {w = w} {w′ = v} t h)
 
-pub su-wide : (w : Width) → T (leb (hbits w) 31) → (n e i : ℕ) (z : ℤ) {c : Cursor} {xs ys : List ℕ} {s : Step} → SFits w z
-    → Walked (su n e i .enc (toZ w32 (ofZ w32 (toZ w (ofZ w z))))) c xs s ys → Walked (su n e i .enc z) c xs s ys
-su-wide w t n e i z h g = rw (widened w z h w32 t) at g
+  pub su-wide : (n e i : ℕ) {c : Cursor} {xs ys : List ℕ} {s : Step} → Walked (su n e i .enc (toZ v (ofZ v (toZ w (ofZ w z))))) c xs s ys → Walked (su n e i .enc z) c xs s ys
+  su-wide n e i g = rw (widened w z h v t) at g
 
 -- The numbers of su(n)'s codes, by the test that the code makes.
 module _ (n v p : ℕ) (q : p ≡ 2 ^ n) (l : n ≤ 32) where

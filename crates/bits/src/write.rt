@@ -108,15 +108,15 @@ pub fn su(out: &mut [u8], c: Cursor, n: u32, value: i32, element: u8, index: u8)
     f(out, c, width, code, element, index)
 }
 
-// The same of an 8-bit and of a 16-bit number.
-pub fn su8(out: &mut [u8], c: Cursor, n: u32, value: i8, element: u8, index: u8) -> Step
+// The same of a 16-bit and of an 8-bit number.
+pub fn su16(out: &mut [u8], c: Cursor, n: u32, value: i16, element: u8, index: u8) -> Step
     ensures { λ r. ⌜ Walked (su (min n 32) element index .enc value) c (now (out .entry)) r (now (out .exit)) ⌝ }
 {
     su(out, c, n, value as i32, element, index)
 }
 
-pub fn su16(out: &mut [u8], c: Cursor, n: u32, value: i16, element: u8, index: u8) -> Step
+pub fn su8(out: &mut [u8], c: Cursor, n: u32, value: i8, element: u8, index: u8) -> Step
     ensures { λ r. ⌜ Walked (su (min n 32) element index .enc value) c (now (out .entry)) r (now (out .exit)) ⌝ }
 {
-    su(out, c, n, value as i32, element, index)
+    su16(out, c, n, value as i16, element, index)
 }

@@ -1,10 +1,10 @@
-use mir.Syntax.{w8}
+use mir.Syntax.{w8, w16}
 use borrow.Author.Needs.{needs}
-use Rattle.bits.proofs.Signs.{fits-wide, su-wide}
+use Rattle.bits.proofs.Signs.{wide-fits, su-wide}
 use Rattle.bits.proofs.write.su8.Statement.{statement}
 use Rattle.bits.proofs.write.su8.Tie as tie
 
 pub su8-spec : {M : Type 1} → statement M
 su8-spec =
     tie.close
-    (tie.spec (λ c. search (fits-wide w8 tt)) (λ c κs. search needs) (λ c. search needs) (λ c. search (su-wide w8 tt)))
+    (tie.spec (λ c. search (wide-fits w8 w16 tt)) (λ c κs. search needs) (λ c. search needs) (λ c. search (su-wide w8 w16 tt)))
