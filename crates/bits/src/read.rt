@@ -29,7 +29,7 @@ fn end(s: &[u8]) -> usize
 }
 
 // How many bits there are from a place on.
-fn rest(s: &[u8], at: usize) -> usize
+pub fn rest(s: &[u8], at: usize) -> usize
     ensures { λ r. ⌜ r ≡ end (now (s .entry)) - at ⌝ }
 {
     let last = end(s);

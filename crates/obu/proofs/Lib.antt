@@ -1,0 +1,14 @@
+pub mod Headers
+pub mod Frames
+pub mod Spellings
+pub mod Bytes
+pub mod Writing
+pub mod Framing
+pub mod Blind
+pub mod Strings
+pub mod Delimiters
+pub mod HeaderReading
+pub mod TailReading
+pub mod ObuReading
+pub mod Demands
+pub mod Worked

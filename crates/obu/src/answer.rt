@@ -1,0 +1,54 @@
+// What a public writer answers, and how the pass that only counts tells it.
+use bits::answer::Numbered;
+use bits::answer::Refusal;
+use bits::answer::Step;
+use bits::answer::numbers;
+ghost use mathlib.Core.Path.{_≡_};
+ghost use Rattle.obu.specs.Writer.{answerNumbers, counted, verdict};
+
+pub enum Answer {
+    // So many bytes were written.
+    Done(u32),
+    // Why nothing was written.
+    Refused(Refusal),
+}
+
+pub fn answer_numbers(a: Answer) -> Numbered
+    ensures { λ n. ⌜ n ≡ answerNumbers a ⌝ }
+{
+    match a {
+        Answer::Done(bytes) => Numbered {
+            number: 0,
+            first: bytes,
+            second: 0,
+        },
+        Answer::Refused(r) => numbers(r),
+    }
+}
+
+// n, or the largest u32.
+pub(crate) fn counted(n: usize) -> u32
+    ensures { λ r. ⌜ r ≡ counted n ⌝ }
+{
+    if n < 4294967295 { n as u32 } else { 4294967295 }
+}
+
+// A writer walks twice: first over an empty part of its slice, where nothing can be stored, and if that ends in `Done`, over the slice. This is
+// the answer, from the first walk's last step and the length of the slice.
+pub fn verdict(s: Step, len: usize) -> Answer
+    ensures { λ r. ⌜ r ≡ verdict s len ⌝ }
+{
+    if 65536 < len {
+        return Answer::Refused(Refusal::Long);
+    }
+    match s {
+        Step::Refused(r) => Answer::Refused(r),
+        Step::Next(c) => {
+            let n = c.at / 8 + (c.at % 8 + 7) / 8;
+            if len < n {
+                return Answer::Refused(Refusal::Short(counted(n)));
+            }
+            Answer::Done(counted(n))
+        }
+    }
+}
