@@ -1,0 +1,6 @@
+pub mod Conditions
+pub mod Laws
+pub mod Counts
+pub mod Answering
+pub mod Demand
+pub mod Worked

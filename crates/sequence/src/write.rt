@@ -1,0 +1,206 @@
+// 5.5.1 sequence_header_obu, written, and the OBU that holds it.
+use crate::record::DecoderModelInfo;
+use crate::record::SequenceHeaderObu;
+use crate::write_color::color_config;
+use crate::write_frame::frame_ids;
+use crate::write_frame::frame_size;
+use crate::write_points::points;
+use crate::write_points::reduced_points;
+use crate::write_timing::reduced_timing;
+use crate::write_timing::timing;
+use crate::write_tools::block_tools;
+use crate::write_tools::filter_tools;
+use crate::write_tools::inter_tools;
+use bits::answer::Cursor;
+use bits::answer::Step;
+use bits::element;
+use bits::write::demand;
+use bits::write::f;
+use bits::write::flag;
+use obu::answer::Answer;
+use obu::answer::verdict;
+use obu::write::obu_header;
+use obu::write::obu_size;
+use obu::write::payload_bytes;
+use obu::write::trailing_bits;
+ghost use mathlib.Core.Path.{_≡_};
+ghost use Prim.Native.Nat.{_+_};
+ghost use Rattle.bits.specs.Walk.{Walked, _⊕_};
+ghost use Rattle.sequence.specs.Fields.{general-out, grain-out, tools-out, body-out, sequence-out};
+ghost use Rattle.sequence.specs.Timing.{decoder-model-info-if};
+ghost use Rattle.sequence.specs.Sequence.{profile, full-general, reduced-general, general, grain, tools, body, sequence-header-obu, sequence-header};
+ghost use Rattle.obu.specs.Frame.{obu-size, trailing-bits, framed};
+ghost use Rattle.obu.specs.Writer.{Writes};
+
+fn profile(out: &mut [u8], c: Cursor, v: u32) -> Step
+    ensures { λ s. ⌜ Walked (profile .enc v) c (now (out .entry)) s (now (out .exit)) ⌝ }
+{
+    let s = f(out, c, 3, v, element::SEQ_PROFILE, 0);
+    let Step::Next(c) = s else {
+        return s;
+    };
+    demand(out, c, v <= 2, element::SEQ_PROFILE, 0)
+}
+
+// The width of the buffer delays, where a decoder model is coded.
+fn delay_width(has_model: bool, d: DecoderModelInfo) -> u32
+    ensures { λ r. ⌜ r ≡ decoder-model-info-if «has_model» .coded d .«buffer_delay_length_minus_1» + 1 ⌝ }
+{
+    if has_model {
+        return d.buffer_delay_length_minus_1 as u32 + 1;
+    }
+    1
+}
+
+fn full_general(out: &mut [u8], c: Cursor, h: SequenceHeaderObu) -> Step
+    ensures { λ s. ⌜ Walked (full-general .enc (general-out h)) c (now (out .entry)) s (now (out .exit)) ⌝ }
+{
+    let d = h.decoder_model_info;
+    let k = delay_width(h.decoder_model_info_present_flag, d);
+    let s = timing(out, c, h);
+    let Step::Next(c) = s else {
+        return s;
+    };
+    points(out, c, h.decoder_model_info_present_flag, k, h)
+}
+
+fn reduced_general(out: &mut [u8], c: Cursor, h: SequenceHeaderObu) -> Step
+    ensures { λ s. ⌜ Walked (reduced-general .enc (general-out h)) c (now (out .entry)) s (now (out .exit)) ⌝ }
+{
+    let s = reduced_timing(out, c, h);
+    let Step::Next(c) = s else {
+        return s;
+    };
+    reduced_points(out, c, h)
+}
+
+fn general(out: &mut [u8], c: Cursor, reduced: bool, h: SequenceHeaderObu) -> Step
+    ensures { λ s. ⌜ Walked (general reduced .enc (general-out h)) c (now (out .entry)) s (now (out .exit)) ⌝ }
+{
+    if reduced {
+        return reduced_general(out, c, h);
+    }
+    full_general(out, c, h)
+}
+
+fn grain(out: &mut [u8], c: Cursor, profile: u32, h: SequenceHeaderObu) -> Step
+    ensures { λ s. ⌜ Walked (grain profile .enc (grain-out h)) c (now (out .entry)) s (now (out .exit)) ⌝ }
+{
+    let s = color_config(out, c, profile, h.color_config);
+    let Step::Next(c) = s else {
+        return s;
+    };
+    flag(out, c, h.film_grain_params_present)
+}
+
+fn tools(out: &mut [u8], c: Cursor, profile: u32, reduced: bool, h: SequenceHeaderObu) -> Step
+    ensures { λ s. ⌜ Walked (tools profile reduced .enc (tools-out h)) c (now (out .entry)) s (now (out .exit)) ⌝ }
+{
+    let s = block_tools(out, c, h);
+    let Step::Next(c) = s else {
+        return s;
+    };
+    let s = inter_tools(out, c, reduced, h);
+    let Step::Next(c) = s else {
+        return s;
+    };
+    let s = filter_tools(out, c, h);
+    let Step::Next(c) = s else {
+        return s;
+    };
+    grain(out, c, profile, h)
+}
+
+fn body(out: &mut [u8], c: Cursor, profile: u32, reduced: bool, h: SequenceHeaderObu) -> Step
+    ensures { λ s. ⌜ Walked (body profile reduced .enc (body-out h)) c (now (out .entry)) s (now (out .exit)) ⌝ }
+{
+    let s = general(out, c, reduced, h);
+    let Step::Next(c) = s else {
+        return s;
+    };
+    let s = frame_size(out, c, h);
+    let Step::Next(c) = s else {
+        return s;
+    };
+    let s = frame_ids(out, c, reduced, h);
+    let Step::Next(c) = s else {
+        return s;
+    };
+    tools(out, c, profile, reduced, h)
+}
+
+pub fn sequence_header_obu(out: &mut [u8], c: Cursor, h: SequenceHeaderObu) -> Step
+    ensures { λ s. ⌜ Walked (sequence-header-obu .enc (sequence-out h)) c (now (out .entry)) s (now (out .exit)) ⌝ }
+{
+    let s = profile(out, c, h.seq_profile);
+    let Step::Next(c) = s else {
+        return s;
+    };
+    let s = flag(out, c, h.still_picture);
+    let Step::Next(c) = s else {
+        return s;
+    };
+    let s = flag(out, c, h.reduced_still_picture_header);
+    let Step::Next(c) = s else {
+        return s;
+    };
+    body(out, c, h.seq_profile, h.reduced_still_picture_header, h)
+}
+
+// A payload of n bits, between its size, if flagged, and the trailing bits.
+fn sized_payload(
+    out: &mut [u8],
+    c: Cursor,
+    sized: bool,
+    size: u32,
+    n: usize,
+    h: SequenceHeaderObu,
+) -> Step
+    ensures { λ s. ⌜ Walked (obu-size sized size ⊕ sequence-header-obu .enc (sequence-out h) ⊕ trailing-bits n) c (now (out .entry)) s (now (out .exit)) ⌝ }
+{
+    let s = obu_size(out, c, sized, size);
+    let Step::Next(c) = s else {
+        return s;
+    };
+    let s = sequence_header_obu(out, c, h);
+    let Step::Next(c) = s else {
+        return s;
+    };
+    trailing_bits(out, c, n)
+}
+
+// All behind the OBU header: the payload is counted first.
+fn framed_payload(out: &mut [u8], c: Cursor, sized: bool, h: SequenceHeaderObu) -> Step
+    ensures { λ s. ⌜ Walked (framed sized (sequence-header-obu .enc (sequence-out h))) c (now (out .entry)) s (now (out .exit)) ⌝ }
+{
+    let s = sequence_header_obu(&mut out[0..0], Cursor { at: 0 }, h);
+    let Step::Next(end) = s else {
+        return s;
+    };
+    let n = end.at;
+    sized_payload(out, c, sized, payload_bytes(n), n, h)
+}
+
+// The whole OBU.
+fn sequence_header(out: &mut [u8], c: Cursor, h: SequenceHeaderObu) -> Step
+    ensures { λ s. ⌜ Walked (sequence-header .enc h) c (now (out .entry)) s (now (out .exit)) ⌝ }
+{
+    let s = obu_header(out, c, h.obu_header, 1);
+    let Step::Next(c) = s else {
+        return s;
+    };
+    framed_payload(out, c, h.obu_header.has_size_field, h)
+}
+
+// The sequence header OBU, written at the start of `out`.
+pub fn write_sequence_header(record: SequenceHeaderObu, out: &mut [u8]) -> Answer
+    ensures { λ r. ⌜ Writes (sequence-header .enc «record») (now (out .entry)) r (now (out .exit)) ⌝ }
+{
+    let s = sequence_header(&mut out[0..0], Cursor { at: 0 }, record);
+    let answer = verdict(s, out.len());
+    let Answer::Done(_) = answer else {
+        return answer;
+    };
+    sequence_header(out, Cursor { at: 0 }, record);
+    answer
+}
