@@ -11,7 +11,7 @@ use Rattle.sequence.specs.declared.group.Planes.{Planes}
 use Rattle.sequence.specs.Fields.{color-description-out, color-description-in, sampling-out, sampling-in, planes-out, planes-in, color-config-out, color-config-in}
 use Rattle.sequence.specs.Optional.{f-if, flag-if}
 
--- 2 is unspecified
+-- a description that is not there is 2, 2, 2: unspecified
 unfoldable pub color-values : Bool → Codec (ℕ × (ℕ × ℕ))
 color-values present =
     f-if present 8 color-primaries 0 2 ▷ λ _.
@@ -40,6 +40,7 @@ fixed-sampling x y = via sampling-out sampling-in (
     inferredFlag subsampling-y 0 y ▷ λ _.
     inferred chroma-sample-position 0 0)
 
+-- color_range, the sampling, separate_uv_delta_q: of one plane, of sRGB, and of any other
 unfoldable pub mono-planes : Codec Planes
 mono-planes = via planes-out planes-in (
     flag ▷ λ color-range.

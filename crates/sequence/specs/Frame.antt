@@ -10,10 +10,10 @@ use Rattle.sequence.specs.declared.group.FrameIds.{FrameIds}
 use Rattle.sequence.specs.Fields.{FrameSizeTable, frame-size-out, frame-size-in, frame-ids-out, frame-ids-in}
 use Rattle.sequence.specs.Optional.{flag-if}
 
--- the sizes always fit, by the checks made before
+-- max_frame_width_minus_1, max_frame_height_minus_1: they always fit, by the checks made before
 unfoldable pub max-frame-size : ℕ → ℕ → Codec (ℕ × ℕ)
 max-frame-size width-bits height-bits =
-    f (width-bits + 1) 0 0 ▷ λ max-frame-width-minus-1.
+    f (width-bits + 1) 0 0 ▷ λ _.
     f (height-bits + 1) 0 0
 
 unfoldable pub frame-size-fields : Codec FrameSizeTable
@@ -32,6 +32,7 @@ frame-size = via frame-size-out frame-size-in (
     checked (λ p. counted (p .0) (p .1 .1 .0)) (Inconsistent frame-width-bits-minus-1 0) (
     checked (λ p. counted (p .1 .0) (p .1 .1 .1)) (Inconsistent frame-height-bits-minus-1 0) frame-size-fields))
 
+-- frame_id_numbers_present_flag is 0 with the reduced header
 unfoldable pub frame-ids : Bool → Codec FrameIds
 frame-ids reduced = via frame-ids-out frame-ids-in (
     flag-if (not reduced) frame-id-numbers-present-flag 0 false ▷ λ present.

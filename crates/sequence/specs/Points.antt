@@ -14,7 +14,7 @@ use Rattle.sequence.specs.declared.group.Points.{Points}
 use Rattle.sequence.specs.Fields.{operating-parameters-info-out, operating-parameters-info-in, point-model-out, point-model-in, point-delay-out, point-delay-in, PointRestTable, operating-point-out, operating-point-in, points-out, points-in}
 use Rattle.sequence.specs.Optional.{f-if, flag-if}
 
--- 5.5.5, at point i, with delays in n bits
+-- 5.5.5, at point i, with delays in n bits: decoder_buffer_delay, encoder_buffer_delay, low_delay_mode_flag
 unfoldable pub operating-parameters-info : ℕ → ℕ → Codec OperatingParametersInfo
 operating-parameters-info n i = via operating-parameters-info-out operating-parameters-info-in (
     f n decoder-buffer-delay i ▷ λ _.
@@ -36,7 +36,7 @@ point-delay has-delay i = via point-delay-out point-delay-in (
     (flag ▷ λ present. choose present (f 4 initial-display-delay-minus-1 i) (absent 0))
     (absent (false, 0)))
 
--- point i
+-- point i, which goes by these two flags of the header and, where it has a model, by n
 unfoldable pub point-rest : ℕ → Bool → ℕ → Bool → ℕ → Codec PointRestTable
 point-rest level has-model n has-delay i =
     f-if (ltb 7 level) 1 seq-tier i 0 ▷ λ _.
@@ -56,6 +56,7 @@ no-point = operating-point-in (0, (0, (0, (point-model-in (false, no-operating-p
 unfoldable pub operating-points : Bool → ℕ → Bool → ℕ → Codec (List OperatingPoint)
 operating-points has-model k has-delay n = array no-point (operating-point has-model k has-delay) 32 0 n
 
+-- initial_display_delay_present_flag, operating_points_cnt_minus_1, and so many points
 unfoldable pub points : Bool → ℕ → Codec Points
 points has-model k = via points-out points-in (
     flag ▷ λ has-delay.

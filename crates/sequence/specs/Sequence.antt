@@ -18,6 +18,7 @@ use Rattle.sequence.specs.Color.{color-config}
 unfoldable pub profile : Codec ℕ
 profile = within (λ v. leb v 2) (Inconsistent seq-profile 0) (f 3 seq-profile 0)
 
+-- up to the operating points; the buffer delays are as wide as the decoder model says
 unfoldable pub full-general : Codec GeneralTable
 full-general = timing ▷ λ t. points (t .«decoder_model_info_present_flag») (t .«decoder_model_info» .«buffer_delay_length_minus_1» + 1)
 
@@ -27,11 +28,13 @@ reduced-general = reduced-timing ▷ λ _. reduced-points
 unfoldable pub general : Bool → Codec GeneralTable
 general reduced = choose reduced reduced-general full-general
 
+-- from the colour on: color_config, film_grain_params_present
 unfoldable pub grain : ℕ → Codec GrainTable
 grain profile =
     color-config profile ▷ λ _.
     flag
 
+-- from the tools on
 unfoldable pub tools : ℕ → Bool → Codec ToolsTable
 tools profile reduced =
     block-tools ▷ λ _.
@@ -39,6 +42,7 @@ tools profile reduced =
     filter-tools ▷ λ _.
     grain profile
 
+-- all behind the first three fields
 unfoldable pub body : ℕ → Bool → Codec BodyTable
 body profile reduced =
     general reduced ▷ λ _.
@@ -46,6 +50,7 @@ body profile reduced =
     frame-ids reduced ▷ λ _.
     tools profile reduced
 
+-- the whole
 unfoldable pub sequence-header-obu : Codec SequenceTable
 sequence-header-obu =
     profile ▷ λ seq-profile.

@@ -13,12 +13,14 @@ use Rattle.sequence.specs.declared.group.FilterTools.{FilterTools}
 use Rattle.sequence.specs.Fields.{block-tools-out, block-tools-in, hint-tools-out, hint-tools-in, choice-out, choice-in, hint-bits-out, hint-bits-in, MotionTable, OrderTable, inter-tools-out, inter-tools-in, filter-tools-out, filter-tools-in}
 use Rattle.sequence.specs.Optional.{f-if, flag-if}
 
+-- use_128x128_superblock, enable_filter_intra, enable_intra_edge_filter
 unfoldable pub block-tools : Codec BlockTools
 block-tools = via block-tools-out block-tools-in (
     flag ▷ λ use-128x128-superblock.
     flag ▷ λ enable-filter-intra.
     flag)
 
+-- what needs order hints
 unfoldable pub hint-tools : Bool → Codec HintTools
 hint-tools order-hint = via hint-tools-out hint-tools-in (
     flag-if order-hint enable-jnt-comp 0 false ▷ λ _.
@@ -89,6 +91,7 @@ reduced-tools = via inter-tools-out inter-tools-in (
 unfoldable pub inter-tools : Bool → Codec InterTools
 inter-tools reduced = choose reduced reduced-tools full-tools
 
+-- enable_superres, enable_cdef, enable_restoration
 unfoldable pub filter-tools : Codec FilterTools
 filter-tools = via filter-tools-out filter-tools-in (
     flag ▷ λ enable-superres.
