@@ -5,15 +5,10 @@ pub mod Leaves
 pub mod CodeLaws
 pub mod Storing
 pub mod Places
-pub mod Chunk
 pub mod Walking
 pub mod Loops
-pub mod Coding
 pub mod Signs
 pub mod Reading
-pub mod Fields
 pub mod Bounds
-pub mod Counting
-pub mod Values
 pub mod RoundTrip
 pub mod Worked

@@ -6,7 +6,7 @@ use Prim.Native.Nat.{ℕ, zero, suc, _+_, _-_, _*_, _^_, _/_, _%_, _<_, _≤_}
 use native.Mathlib.Omega.{arith}
 use native.Mathlib.Nat.{mod-lt, mod-eq-of-lt, mod-one, one-mul}
 use lib.ListN.{length}
-use lib.Pow.{mod-pow-add, field, mod-mod-pow, high, low, pow-lt}
+use lib.Pow.{mod-pow-add, field, mod-mod-pow, high, low, pow-pos, pow-lt}
 use lib.Dec.{eqb, lit<}
 use Rattle.bits.specs.Bits.{Bits, bit, bitAt, toBits, fromBits}
 
@@ -69,3 +69,11 @@ to-from (b ∷ bs) =
 -- the code's power of two
 pub power-is : (n : ℕ) → n ≤ 32 → 1 * 2 ^ n % 2 ^ 64 ≡ 2 ^ n
 power-is n h = rw one-mul (mod-eq-of-lt (pow-lt {j = 64} (omega arith)))
+
+-- the powers and the parts of a byte by the names that the code has for them
+pub power-some : (n p : ℕ) → p ≡ 2 ^ n → 0 < p
+power-some n p e = rw e (pow-pos n)
+
+-- the k bits of a byte above its d low ones
+pub chunk-is : (x k d p q : ℕ) → p ≡ 2 ^ d → q ≡ 2 ^ k → x / p % q ≡ x / 2 ^ d % 2 ^ k
+chunk-is x k d p q e h = rw (e, h)

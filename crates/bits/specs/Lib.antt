@@ -1,6 +1,5 @@
 pub mod Elements
 pub mod Bits
-pub mod Blend
 pub mod Walk
 pub mod Codec
 pub mod Codes

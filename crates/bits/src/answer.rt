@@ -2,6 +2,9 @@
 ghost use mathlib.Core.Path.{_≡_};
 ghost use Rattle.bits.specs.Answers.{plain, numbered, why, step, number, flag, signed, size};
 
+// Places end here, at 2^63.
+pub const LIMIT: usize = 9223372036854775808;
+
 // A place, in bits from the first byte's top one.
 pub struct Cursor {
     pub at: usize,

@@ -68,7 +68,7 @@ fn start() -> Cursor {
 }
 
 fn one_bit(s: &[u8], at: usize) {
-    let g = bits::read::flag(s, Cursor { at });
+    let g = reader::flag(s, Cursor { at });
     let GotFlag::Value(one, _) = g else {
         return text(b"?");
     };
@@ -125,12 +125,12 @@ fn f(n: u32, value: u32) {
     decimal(value as u64);
     text(b": ");
     let mut out = [0u8; 8];
-    let s = bits::write::f(&mut out, start(), n, value, BASE_Q_IDX, 0);
+    let s = writer::f(&mut out, start(), n, value, BASE_Q_IDX, 0);
     let Step::Next(c) = s else {
         return refusal(bits::answer::why_step(s));
     };
     binary(&out, c.at);
-    number(bits::read::f(&out, start(), n));
+    number(reader::f(&out, start(), n));
 }
 
 fn su(n: u32, value: i32) {
@@ -140,12 +140,12 @@ fn su(n: u32, value: i32) {
     signed(value);
     text(b": ");
     let mut out = [0u8; 8];
-    let s = bits::write::su(&mut out, start(), n, value, DELTA_Q_Y_DC, 0);
+    let s = writer::su(&mut out, start(), n, value, DELTA_Q_Y_DC, 0);
     let Step::Next(c) = s else {
         return refusal(bits::answer::why_step(s));
     };
     binary(&out, c.at);
-    signed_number(bits::read::su(&out, start(), n));
+    signed_number(reader::su(&out, start(), n));
 }
 
 fn uvlc(value: u32) {
@@ -153,12 +153,12 @@ fn uvlc(value: u32) {
     decimal(value as u64);
     text(b": ");
     let mut out = [0u8; 8];
-    let s = bits::write::uvlc(&mut out, start(), value, NUM_TICKS_PER_PICTURE_MINUS_1, 0);
+    let s = writer::uvlc(&mut out, start(), value, NUM_TICKS_PER_PICTURE_MINUS_1, 0);
     let Step::Next(c) = s else {
         return refusal(bits::answer::why_step(s));
     };
     binary(&out, c.at);
-    number(bits::read::uvlc(&out, start(), NUM_TICKS_PER_PICTURE_MINUS_1, 0));
+    number(reader::uvlc(&out, start(), NUM_TICKS_PER_PICTURE_MINUS_1, 0));
 }
 
 fn leb128(value: u32) {
@@ -166,29 +166,29 @@ fn leb128(value: u32) {
     decimal(value as u64);
     text(b": ");
     let mut out = [0u8; 8];
-    let s = bits::write::leb128(&mut out, start(), value);
+    let s = writer::leb128(&mut out, start(), value);
     let Step::Next(c) = s else {
         return refusal(bits::answer::why_step(s));
     };
     binary(&out, c.at);
-    size(bits::read::leb128(&out, start()));
+    size(reader::leb128(&out, start()));
 }
 
 // A delta of eight bits, and a segment value of sixteen.
 fn narrow(delta: i8, segment: i16) {
     let mut out = [0u8; 8];
-    let s = bits::write::su8(&mut out, start(), 7, delta, DELTA_Q_Y_DC, 0);
+    let s = writer::su8(&mut out, start(), 7, delta, DELTA_Q_Y_DC, 0);
     let Step::Next(c) = s else {
         return refusal(bits::answer::why_step(s));
     };
-    let s = bits::write::su16(&mut out, c, 9, segment, FEATURE_DATA, 63);
+    let s = writer::su16(&mut out, c, 9, segment, FEATURE_DATA, 63);
     let Step::Next(d) = s else {
         return refusal(bits::answer::why_step(s));
     };
     binary(&out, d.at);
-    signed_number(bits::read::su(&out, start(), 7));
+    signed_number(reader::su(&out, start(), 7));
     text(b", ");
-    signed_number(bits::read::su(&out, c, 9));
+    signed_number(reader::su(&out, c, 9));
 }
 
 fn line() {
@@ -237,16 +237,16 @@ fn all_narrow() {
 
 fn only_read() {
     text(b"84 80 00: ");
-    size(bits::read::leb128(&LONG_SIZE, start()));
+    size(reader::leb128(&LONG_SIZE, start()));
     line();
     text(b"FF FF FF FF FF FF FF FF: ");
-    size(bits::read::leb128(&ENDLESS_SIZE, start()));
+    size(reader::leb128(&ENDLESS_SIZE, start()));
     line();
     text(b"80: ");
-    size(bits::read::leb128(&CUT_SIZE, start()));
+    size(reader::leb128(&CUT_SIZE, start()));
     line();
     text(b"32 zeros: ");
-    number(bits::read::uvlc(&ZEROS, start(), NUM_TICKS_PER_PICTURE_MINUS_1, 0));
+    number(reader::uvlc(&ZEROS, start(), NUM_TICKS_PER_PICTURE_MINUS_1, 0));
     line();
 }
 

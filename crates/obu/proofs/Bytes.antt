@@ -7,11 +7,11 @@ use lib.ListN.{length, getD, set, length-append, take, drop, take-append-drop, l
 use lib.Seq.{take-at, drop-at, length-take-le, append-snoc, getD-append-seam, set-append-seam}
 use lib.Dec.{lit<}
 use Rattle.bits.specs.Bits.{Bits, toBits, fromBits, bitsOf, put}
-use Rattle.bits.specs.Blend.{blend}
+use Rattle.writer.specs.Blend.{blend}
 use Rattle.bits.specs.Codec.{nil}
 use Rattle.bits.proofs.Numbers.{length-toBits, from-to-fits, to-from, from-lt}
 use Rattle.bits.proofs.Storing.{put-append}
-use Rattle.bits.proofs.Chunk.{stores-all, stores-on, stores-end}
+use Rattle.writer.proofs.Chunk.{stores-all, stores-on, stores-end}
 use Rattle.bits.proofs.Places.{length-bitsOf}
 use Rattle.obu.specs.Demand3.{AreBytes}
 

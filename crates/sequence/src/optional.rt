@@ -1,9 +1,9 @@
 // A field that is coded only under a condition, and else must hold an inferred value.
 use bits::answer::Cursor;
 use bits::answer::Step;
-use bits::write::demand;
-use bits::write::f;
-use bits::write::flag;
+use writer::demand;
+use writer::f;
+use writer::flag;
 ghost use mathlib.Core.Path.{_≡_};
 ghost use mathlib.Core.Bool.{_&&_, false};
 ghost use Rattle.bits.specs.Walk.{Walked};

@@ -4,22 +4,13 @@ use crate::record::SequenceHeaderObu;
 use bits::answer::Cursor;
 use bits::answer::Step;
 use bits::element;
-use bits::write::demand;
-use bits::write::f;
-ghost use mathlib.Core.Path.{_≡_};
-ghost use Prim.Native.Nat.{_^_};
-ghost use lib.Dec.{ltb};
+use writer::demand;
+use writer::f;
+use writer::fits;
 ghost use Rattle.bits.specs.Walk.{Walked, demand as demanded};
 ghost use Rattle.bits.specs.declared.answer.Refusal.the-variants.{Inconsistent};
 ghost use Rattle.sequence.specs.Fields.{frame-size-of, frame-ids-of};
 ghost use Rattle.sequence.specs.Frame.{max-frame-size, frame-size-fields, counted, frame-size, frame-ids};
-
-// Whether v has at most n bits.
-fn fits(v: u32, n: u32) -> bool
-    ensures { λ r. ⌜ r ≡ ltb v (2 ^ n) ⌝ }
-{
-    if n < 32 { v >> n == 0 } else { true }
-}
 
 fn bits_counted(out: &mut [u8], c: Cursor, bits_minus_1: u8, size: u32, element: u8) -> Step
     ensures { λ s. ⌜ Walked (demanded (counted «bits_minus_1» size) (Inconsistent element 0)) c (now (out .entry)) s (now (out .exit)) ⌝ }

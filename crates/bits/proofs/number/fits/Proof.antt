@@ -1,7 +1,0 @@
-use borrow.Author.Needs.{needs}
-use Rattle.bits.proofs.Storing.{fits-test, fits-all}
-use Rattle.bits.proofs.number.fits.Statement.{statement}
-use Rattle.bits.proofs.number.fits.Tie as tie
-
-pub fits-spec : {M : Type 1} → statement M
-fits-spec = tie.close (tie.spec (λ c. search needs) (λ c. search fits-test) (λ c. search fits-all))

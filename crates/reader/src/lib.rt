@@ -1,0 +1,156 @@
+// The bit reader: the codes of 4.10 read. Each step answers a value and the place behind it, or the refusal.
+mod number; // number.rt: powers of two, and the values of codes
+
+use crate::number::pow2;
+use crate::number::smaller;
+use crate::number::su_value;
+use crate::number::uvlc_value;
+use bits::answer::Cursor;
+use bits::answer::GotFlag;
+use bits::answer::GotNumber;
+use bits::answer::GotSigned;
+use bits::answer::GotSize;
+use bits::answer::LIMIT;
+use bits::answer::Refusal;
+use bits::answer::why_flag;
+use bits::answer::why_number;
+ghost use mathlib.Core.Path.{_≡_};
+ghost use Prim.Native.Nat.{min, _+_, _-_, _/_, _%_, _^_, _≤_};
+ghost use Rattle.bits.specs.Bits.{end};
+ghost use Rattle.bits.specs.Codec.{f, flag};
+ghost use Rattle.bits.specs.Codes.{unary, uvlc, su, leb128};
+ghost use Rattle.bits.specs.Answers.{Said};
+ghost use Rattle.bits.specs.Answers as form;
+
+// Where the bits of a slice end.
+fn end(s: &[u8]) -> usize
+    ensures { λ r. ⌜ r ≡ end (now (s .entry)) ⌝ }
+{
+    let n = s.len();
+    if n < LIMIT / 8 { n * 8 } else { LIMIT }
+}
+
+// How many bits there are from a place on.
+pub fn rest(s: &[u8], at: usize) -> usize
+    ensures { λ r. ⌜ r ≡ end (now (s .entry)) - at ⌝ }
+{
+    let last = end(s);
+    if at < last { last - at } else { 0 }
+}
+
+// The k bits above the d low ones of the byte x.
+fn chunk(x: u8, k: u32, d: u32) -> u64
+    requires { ⌜ k + d ≤ 8 ⌝ }
+    ensures { λ r. ⌜ r ≡ x / 2 ^ d % 2 ^ k ⌝ }
+{
+    let y = x as u64;
+    y / pow2(d) % pow2(k)
+}
+
+// f(n); a width over 32, which is that of the value, counts as 32.
+pub fn f(s: &[u8], c: Cursor, n: u32) -> GotNumber
+    ensures { λ r. ⌜ Said form.number (f (min n 32) 0 0 .dec) (now (s .entry)) c r ⌝ }
+{
+    let mut left = smaller(n, 32);
+    let mut at = c.at;
+    if rest(s, at) < left as usize {
+        return GotNumber::Refused(Refusal::Ends);
+    }
+    let mut value: u64 = 0;
+    while 0 < left {
+        let room = 8 - (at % 8) as u32;
+        let k = smaller(left, room);
+        value = value * pow2(k) + chunk(s[at / 8], k, room - k);
+        at += k as usize;
+        left -= k;
+    }
+    GotNumber::Value(value as u32, Cursor { at })
+}
+
+// f(1) as a flag.
+pub fn flag(s: &[u8], c: Cursor) -> GotFlag
+    ensures { λ r. ⌜ Said form.flag (flag .dec) (now (s .entry)) c r ⌝ }
+{
+    let at = c.at;
+    if rest(s, at) == 0 {
+        return GotFlag::Refused(Refusal::Ends);
+    }
+    let room = 7 - (at % 8) as u32;
+    GotFlag::Value(chunk(s[at / 8], 1, room) == 1, Cursor { at: at + 1 })
+}
+
+// The zeros before the next one, at most 31.
+fn unary(s: &[u8], c: Cursor, element: u8, index: u8) -> GotNumber
+    ensures { λ r. ⌜ Said form.number (unary 31 element index .dec) (now (s .entry)) c r ⌝ }
+{
+    let mut at = c;
+    let mut k: u32 = 0;
+    loop {
+        let g = flag(s, at);
+        let GotFlag::Value(one, next) = g else {
+            return GotNumber::Refused(why_flag(g));
+        };
+        if one {
+            return GotNumber::Value(k, next);
+        }
+        if k == 31 {
+            return GotNumber::Refused(Refusal::Inconsistent(element, index));
+        }
+        at = next;
+        k += 1;
+    }
+}
+
+// uvlc: z zeros, a one, and z bits more.
+pub fn uvlc(s: &[u8], c: Cursor, element: u8, index: u8) -> GotNumber
+    ensures { λ r. ⌜ Said form.number (uvlc element index .dec) (now (s .entry)) c r ⌝ }
+{
+    let g = unary(s, c, element, index);
+    let GotNumber::Value(z, c) = g else {
+        return g;
+    };
+    let g = f(s, c, z);
+    let GotNumber::Value(v, c) = g else {
+        return g;
+    };
+    GotNumber::Value(uvlc_value(z, v), c)
+}
+
+// su(n); a width over 32, which is that of the value, counts as 32.
+pub fn su(s: &[u8], c: Cursor, n: u32) -> GotSigned
+    ensures { λ r. ⌜ Said form.signed (su (min n 32) 0 0 .dec) (now (s .entry)) c r ⌝ }
+{
+    let width = smaller(n, 32);
+    let g = f(s, c, width);
+    let GotNumber::Value(v, c) = g else {
+        return GotSigned::Refused(why_number(g));
+    };
+    GotSigned::Value(su_value(v, width), c)
+}
+
+// leb128 in at most eight bytes, the low seven bits first.
+pub fn leb128(s: &[u8], c: Cursor) -> GotSize
+    ensures { λ r. ⌜ Said form.size (leb128 8 .dec) (now (s .entry)) c r ⌝ }
+{
+    let mut at = c;
+    let mut k: u32 = 0;
+    let mut unit: u64 = 1;
+    let mut low: u64 = 0;
+    let size = loop {
+        let g = f(s, at, 8);
+        let GotNumber::Value(byte, next) = g else {
+            return GotSize::Refused(why_number(g));
+        };
+        at = next;
+        low += (byte % 128) as u64 * unit;
+        if byte < 128 {
+            break low;
+        }
+        k += 1;
+        if k == 8 {
+            return GotSize::Refused(Refusal::Size);
+        }
+        unit *= 128;
+    };
+    GotSize::Value(size, at)
+}

@@ -1,0 +1,38 @@
+// Powers of two, and the numbers that codes stand for: the arithmetic of what is read.
+ghost use mathlib.Core.Path.{_≡_};
+ghost use Prim.Native.Nat.{min, _<_, _≤_, _^_};
+ghost use Rattle.bits.specs.Codes.{uvlc-in, su-in};
+
+pub fn smaller(a: u32, b: u32) -> u32
+    ensures { λ r. ⌜ r ≡ min a b ⌝ }
+{
+    if a < b { a } else { b }
+}
+
+pub fn pow2(n: u32) -> u64
+    requires { ⌜ n ≤ 32 ⌝ }
+    ensures { λ r. ⌜ r ≡ 2 ^ n ⌝ }
+{
+    1u64 << n
+}
+
+// The number that uvlc codes as z zeros, a one and v in z bits.
+pub fn uvlc_value(z: u32, v: u32) -> u32
+    requires { ⌜ (z ≤ 31) × (v < 2 ^ z) ⌝ }
+    ensures { λ r. ⌜ r ≡ uvlc-in (z, v) ⌝ }
+{
+    (pow2(z) + v as u64 - 1) as u32
+}
+
+// The number whose two's complement in n bits is v.
+pub fn su_value(v: u32, n: u32) -> i32
+    requires { ⌜ (n ≤ 32) × (v < 2 ^ n) ⌝ }
+    ensures { λ r. ⌜ r ≡ su-in n v ⌝ }
+{
+    let w = v as u64;
+    let all = pow2(n);
+    if w * 2 < all {
+        return v as i32;
+    }
+    -1 - (all - (w + 1)) as i32
+}

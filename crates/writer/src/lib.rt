@@ -1,0 +1,132 @@
+// The bit writer: the codes of 4.10 written, and checks. Each step answers the next place or the refusal.
+mod number; // number.rt: powers of two, the highest one of a number, and signs
+pub mod store; // store.rt: bits stored in bytes
+
+use crate::number::pow2;
+use crate::number::smaller;
+use crate::number::su_code;
+use crate::number::top_bit;
+use crate::store::put;
+use bits::answer::Cursor;
+use bits::answer::LIMIT;
+use bits::answer::Refusal;
+use bits::answer::Step;
+ghost use mathlib.Core.Path.{_≡_};
+ghost use lib.Dec.{ltb};
+ghost use Prim.Native.Nat.{min, _^_};
+ghost use Rattle.bits.specs.declared.answer.Refusal.the-variants.{Inconsistent};
+ghost use Rattle.bits.specs.Walk.{Walked, field, mark, demand, forward};
+ghost use Rattle.bits.specs.Codes.{unary, uvlc, su, leb128};
+
+// The place n bits further on.
+fn forward(at: usize, n: u32) -> usize
+    ensures { λ r. ⌜ r ≡ forward at n ⌝ }
+{
+    if LIMIT <= at {
+        return at;
+    }
+    let next = at + n as usize;
+    if LIMIT <= next { LIMIT } else { next }
+}
+
+// Whether v has at most n bits.
+pub fn fits(v: u32, n: u32) -> bool
+    ensures { λ r. ⌜ r ≡ ltb v (2 ^ n) ⌝ }
+{
+    if n < 32 { v >> n == 0 } else { true }
+}
+
+// f(n).
+pub fn f(out: &mut [u8], c: Cursor, n: u32, value: u32, element: u8, index: u8) -> Step
+    ensures { λ r. ⌜ Walked (field n value element index) c (now (out .entry)) r (now (out .exit)) ⌝ }
+{
+    if fits(value, n) {
+        let at = c.at;
+        put(out, at, n, value);
+        Step::Next(Cursor { at: forward(at, n) })
+    } else {
+        Step::Refused(Refusal::Unfit(element, index))
+    }
+}
+
+// f(1) of a flag.
+pub fn flag(out: &mut [u8], c: Cursor, value: bool) -> Step
+    ensures { λ r. ⌜ Walked (mark value) c (now (out .entry)) r (now (out .exit)) ⌝ }
+{
+    f(out, c, 1, value as u32, 0, 0)
+}
+
+// A rule that a record has to keep.
+pub fn demand(out: &mut [u8], c: Cursor, ok: bool, element: u8, index: u8) -> Step
+    ensures { λ r. ⌜ Walked (demand ok (Inconsistent element index)) c (now (out .entry)) r (now (out .exit)) ⌝ }
+{
+    if ok {
+        return Step::Next(c);
+    }
+    Step::Refused(Refusal::Inconsistent(element, index))
+}
+
+// z zeros and a one.
+fn unary(out: &mut [u8], c: Cursor, z: u32, element: u8, index: u8) -> Step
+    ensures { λ r. ⌜ Walked (unary 31 element index .enc z) c (now (out .entry)) r (now (out .exit)) ⌝ }
+{
+    if z <= 31 {
+        let s = f(out, c, z, 0, 0, 0);
+        let Step::Next(c) = s else {
+            return s;
+        };
+        return flag(out, c, true);
+    }
+    Step::Refused(Refusal::Unfit(element, index))
+}
+
+pub fn uvlc(out: &mut [u8], c: Cursor, value: u32, element: u8, index: u8) -> Step
+    ensures { λ r. ⌜ Walked (uvlc element index .enc value) c (now (out .entry)) r (now (out .exit)) ⌝ }
+{
+    let w = value as u64 + 1;
+    let z = top_bit(w);
+    let s = unary(out, c, z, element, index);
+    let Step::Next(c) = s else {
+        return s;
+    };
+    f(out, c, z, (w - pow2(z)) as u32, element, index)
+}
+
+// The shortest leb128 of n: at most five bytes, and never refused.
+pub fn leb128(out: &mut [u8], c: Cursor, n: u32) -> Step
+    ensures { λ r. ⌜ Walked (leb128 8 .enc n) c (now (out .entry)) r (now (out .exit)) ⌝ }
+{
+    let mut c = c;
+    let mut n = n;
+    while 128 <= n {
+        let s = f(out, c, 8, 128 + n % 128, 0, 0);
+        let Step::Next(next) = s else {
+            return s;
+        };
+        c = next;
+        n /= 128;
+    }
+    f(out, c, 8, n, 0, 0)
+}
+
+// su(n); a width over 32, which is that of the value, counts as 32.
+pub fn su(out: &mut [u8], c: Cursor, n: u32, value: i32, element: u8, index: u8) -> Step
+    ensures { λ r. ⌜ Walked (su (min n 32) element index .enc value) c (now (out .entry)) r (now (out .exit)) ⌝ }
+{
+    let width = smaller(n, 32);
+    let code = su_code(value, width);
+    f(out, c, width, code, element, index)
+}
+
+// The same of a 16-bit and of an 8-bit number.
+pub fn su16(out: &mut [u8], c: Cursor, n: u32, value: i16, element: u8, index: u8) -> Step
+    ensures { λ r. ⌜ Walked (su (min n 32) element index .enc value) c (now (out .entry)) r (now (out .exit)) ⌝ }
+{
+    su(out, c, n, value as i32, element, index)
+}
+
+pub fn su8(out: &mut [u8], c: Cursor, n: u32, value: i8, element: u8, index: u8) -> Step
+    ensures { λ r. ⌜ Walked (su (min n 32) element index .enc value) c (now (out .entry)) r (now (out .exit)) ⌝ }
+{
+    su16(out, c, n, value as i16, element, index)
+}

@@ -1,0 +1,67 @@
+// Powers of two, the highest one of a number, and signs: the arithmetic of what is written.
+ghost use mathlib.Core.Path.{_≡_};
+ghost use lib.Signed.{mag};
+ghost use Prim.Native.Nat.{min, _<_, _≤_, _/_, _^_};
+ghost use Rattle.bits.specs.Codes.{topBit, su-out};
+
+pub fn smaller(a: u32, b: u32) -> u32
+    ensures { λ r. ⌜ r ≡ min a b ⌝ }
+{
+    if a < b { a } else { b }
+}
+
+pub fn pow2(n: u32) -> u64
+    requires { ⌜ n ≤ 32 ⌝ }
+    ensures { λ r. ⌜ r ≡ 2 ^ n ⌝ }
+{
+    1u64 << n
+}
+
+// v without its k low bits, 0 where there are no others.
+pub fn above(v: u32, k: u32) -> u64
+    ensures { λ r. ⌜ r ≡ v / 2 ^ k ⌝ }
+{
+    let w = v as u64;
+    if k < 64 { w >> k } else { 0 }
+}
+
+// The place of the highest one of w.
+pub fn top_bit(w: u64) -> u32
+    ensures { λ r. ⌜ r ≡ topBit 32 w ⌝ }
+    ensures { λ r. ⌜ r ≤ 32 ⌝ }
+{
+    let mut k: u32 = 32;
+    while 0 < k {
+        if pow2(k) <= w {
+            return k;
+        }
+        k -= 1;
+    }
+    0
+}
+
+// a for a number a, and m for -(m + 1): how far it is from the change of sign.
+pub fn magnitude(v: i32) -> u32
+    ensures { λ r. ⌜ r ≡ mag v ⌝ }
+{
+    if v < 0 { (-1 - v) as u32 } else { v as u32 }
+}
+
+// v in n bits of two's complement, or 2^n where it is out of range.
+pub fn su_code(v: i32, n: u32) -> u32
+    requires { ⌜ n ≤ 32 ⌝ }
+    ensures { λ r. ⌜ r ≡ su-out n v ⌝ }
+{
+    let m = magnitude(v) as u64;
+    let all = pow2(n);
+    if v < 0 {
+        if (m + 1) * 2 <= all {
+            return (all - (m + 1)) as u32;
+        }
+        return all as u32;
+    }
+    if m * 2 < all {
+        return m as u32;
+    }
+    all as u32
+}
