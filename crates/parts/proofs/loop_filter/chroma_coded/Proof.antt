@@ -1,0 +1,12 @@
+use borrow.Author.Needs.{needs}
+use Rattle.parts.proofs.LoopFilterSteps.{chroma-mono, chroma-zero, chroma-some}
+use Rattle.parts.proofs.loop_filter.chroma_coded.Statement.{statement}
+use Rattle.parts.proofs.loop_filter.chroma_coded.Tie as tie
+
+pub chroma-coded-spec : {M : Type 1} → statement M
+chroma-coded-spec =
+    tie.close
+    (tie.spec
+    (λ c. search (chroma-mono, chroma-zero, chroma-some) depth 14)
+    (λ c. search (chroma-mono, chroma-zero, chroma-some) depth 14)
+    (λ c. search (chroma-mono, chroma-zero, chroma-some) depth 14))

@@ -1,0 +1,65 @@
+-- What the writer of a part answers, and what it leaves in the slice that it is lent: for every walk, every place and every slice.
+use mathlib.Core.Path.{_≡_}
+use mathlib.Core.List.{List, []}
+use mathlib.Core.Bool.{Bool, true, false, cond}
+use Prim.Native.Nat.{ℕ, _+_, _*_, _/_, _<_}
+use lib.Dec.{ltb}
+use lib.ListN.{length}
+use Rattle.bits.specs.Bits.{Bits, put}
+use Rattle.bits.specs.Walk.{Walk, End, done, refused, run}
+use Rattle.bits.specs.Codec.{Nil}
+use Rattle.bits.specs.Answers.{numbered}
+use Rattle.bits.specs.declared.answer.Numbered.{Numbered}
+use Rattle.bits.specs.declared.answer.Refusal.{Refusal}
+use Rattle.bits.specs.declared.answer.Refusal.the-variants.{Short, Long}
+use Rattle.bits.specs.declared.answer.Step.{Step}
+use Rattle.bits.specs.declared.answer.Step.the-variants as S
+use Rattle.parts.specs.declared.answer.Answer.{Answer}
+use Rattle.parts.specs.declared.answer.Answer.the-variants.{Done, Refused}
+
+-- document 01, "Numbers returned": number 0 carries the end bit
+abbrev pub answered : Answer → Numbered
+answered (Done n) = record { number = 0; first = n; second = 0 }
+answered (Refused r) = numbered r
+
+pub record Written : Type 0 where
+  pub answer : Answer
+  pub bytes : List ℕ
+
+-- a refusal leaves the slice as it is
+abbrev pub keep : Refusal → List ℕ → Written
+keep r xs = record { answer = Refused r; bytes = xs }
+
+-- the bytes that have the bits before a place
+abbrev pub bytesTo : ℕ → ℕ
+bytesTo n = (n + 7) / 8
+
+-- after a walk from a place on: its refusal; a slice that is too short; or exactly its bits stored, and the place behind them
+abbrev pub afterWalk : End → Bits → ℕ → List ℕ → Written
+afterWalk (refused r) bs place xs = keep r xs
+afterWalk done bs place xs =
+    cond (ltb (length xs * 8) (place + length bs))
+    (keep (Short (bytesTo (place + length bs))) xs)
+    (record { answer = Done (place + length bs); bytes = put xs place bs })
+
+-- a slice over 65,536 bytes is refused before the walk
+unfoldable pub written : Walk → ℕ → List ℕ → Written
+written w place xs = cond (ltb 65536 (length xs)) (keep Long xs) (afterWalk (run w .end) (run w .bits) place xs)
+
+-- The contract of every part's writer: its answer, and what it leaves in the slice.
+-- (One constructor over its two equations, and no record, so that a proof search takes it whole.)
+pub data Writes (w : Walk) (place : ℕ) (xs : List ℕ) (r : Answer) (ys : List ℕ) : Type 0 where
+  writes : r ≡ written w place xs .answer → ys ≡ written w place xs .bytes → Writes w place xs r ys
+
+-- What a first walk over an empty slice tells, for a slice of n bytes: there is room up to its end, or the refusal.
+abbrev pub reaches : Step → ℕ → Answer
+reaches (S.Refused r) n = Refused r
+reaches (S.Next c) n = cond (ltb (n * 8) (c .at)) (Refused (Short (bytesTo (c .at)))) (Done (c .at))
+
+unfoldable pub verdict : Step → ℕ → Answer
+verdict s n = cond (ltb 65536 n) (Refused Long) (reaches s n)
+
+-- a place whose bytes 32 bits count
+abbrev pub Near : Step → Type 0
+Near (S.Refused r) = Nil
+Near (S.Next c) = c .at < 34359738360

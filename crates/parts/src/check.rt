@@ -1,0 +1,53 @@
+// Tests of several flags; flags and deltas that are not coded.
+use bits::answer::Cursor;
+use bits::answer::Step;
+use writer::demand;
+ghost use mathlib.Core.Path.{_≡_};
+ghost use mathlib.Core.Bool.{_&&_, _||_};
+ghost use Rattle.bits.specs.Walk.{Walked};
+ghost use Rattle.bits.specs.Codec.{sameFlag, inferredFlag};
+ghost use Rattle.parts.specs.Codes.{inferredSigned};
+
+pub fn either(a: bool, b: bool) -> bool
+    ensures { λ r. ⌜ r ≡ (a || b) ⌝ }
+{
+    if a { true } else { b }
+}
+
+pub fn any(a: bool, b: bool, c: bool) -> bool
+    ensures { λ r. ⌜ r ≡ (a || b || c) ⌝ }
+{
+    if a {
+        return true;
+    }
+    if b { true } else { c }
+}
+
+pub fn all(a: bool, b: bool, c: bool) -> bool
+    ensures { λ r. ⌜ r ≡ (a && b && c) ⌝ }
+{
+    if a {
+        return if b { c } else { false };
+    }
+    false
+}
+
+pub fn same_flag(a: bool, b: bool) -> bool
+    ensures { λ r. ⌜ r ≡ sameFlag a b ⌝ }
+{
+    if b { a } else { !a }
+}
+
+// A flag that is not coded has to be x.
+pub fn inferred_flag(out: &mut [u8], c: Cursor, a: bool, x: bool, element: u8) -> Step
+    ensures { λ s. ⌜ Walked (inferredFlag element 0 x .enc a) c (now (out .entry)) s (now (out .exit)) ⌝ }
+{
+    demand(out, c, same_flag(a, x), element, 0)
+}
+
+// A delta that is not coded has to be x.
+pub fn inferred_delta(out: &mut [u8], c: Cursor, delta: i8, x: i8, element: u8) -> Step
+    ensures { λ s. ⌜ Walked (inferredSigned element x .enc delta) c (now (out .entry)) s (now (out .exit)) ⌝ }
+{
+    demand(out, c, delta == x, element, 0)
+}
