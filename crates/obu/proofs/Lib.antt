@@ -11,4 +11,3 @@ pub mod HeaderReading
 pub mod TailReading
 pub mod ObuReading
 pub mod Demands
-pub mod Worked

@@ -14,4 +14,3 @@ pub mod CdefLaws
 pub mod RestorationLaws
 pub mod LoopFilterLaws
 pub mod SegmentationLaws
-pub mod Worked

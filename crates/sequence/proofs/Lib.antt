@@ -3,4 +3,3 @@ pub mod Laws
 pub mod Counts
 pub mod Answering
 pub mod Demand
-pub mod Worked
