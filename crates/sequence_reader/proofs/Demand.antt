@@ -1,0 +1,59 @@
+-- Demand 3, of what the two public calls answer. `Answers xs r` is the reader's contract, and `Writes (sequence-header .enc a) xs w ys` the writer's.
+use mathlib.Core.Path.{_≡_, refl, sym, ap, _∙_}
+use mathlib.Core.List.{List, _++_}
+use Prim.Native.Nat.{ℕ, _≤_}
+use native.Mathlib.Omega.{arith}
+use lib.ListN.{length, drop}
+use Rattle.bits.specs.Bits.{Bits}
+use Rattle.bits.specs.Codec.{Got, got, stop}
+use Rattle.obu.specs.declared.answer.Answer.{Answer}
+use Rattle.obu.specs.declared.answer.Answer.the-variants as W
+use Rattle.obu.specs.Writer.{Written, written, Writes, writes}
+use Rattle.obu.specs.Demand3.{AreBytes, read, Consistent, Spells, Shortest}
+use Rattle.sequence.specs.declared.record.SequenceHeaderObu.{SequenceHeaderObu}
+use Rattle.sequence.specs.Sequence.{sequence-header}
+use Rattle.sequence.proofs.Demand.{sequence-demand3}
+use Rattle.sequence_reader.specs.declared.read.SequenceAnswer.{SequenceAnswer}
+use Rattle.sequence_reader.specs.declared.read.Outcome.the-variants.{Done}
+use Rattle.sequence_reader.specs.Reader.{answerFor}
+
+abbrev Answers : List ℕ → SequenceAnswer → Type 0
+Answers xs r = r ≡ answerFor (read sequence-header xs)
+
+-- one answer for every input
+pub only : (xs : List ℕ) {r s : SequenceAnswer} → Answers xs r → Answers xs s → r ≡ s
+only xs p q = p ∙ sym q
+
+-- what was read, where the answer is that it was
+was-read : (g : Got SequenceHeaderObu) → answerFor g .outcome ≡ Done → (rest : Bits) × (g ≡ got (answerFor g .«record») rest)
+unfolding answerFor
+was-read (got h rest) e = (rest, refl)
+was-read (stop r) e = absurd (let n : _≡_ {A = ℕ} 0 1 = cc in omega arith)
+
+-- Accepted exactly when some consistent record has the bytes as a spelling: what is accepted is spelled by the record that is answered, which is
+-- consistent; its fields that are neither coded nor checked are 0, and its inferred ones have the inferred value, as its walk checks.
+pub accepted-is-spelled : (xs : List ℕ) → AreBytes xs → {r : SequenceAnswer} → Answers xs r → r .outcome ≡ Done
+    → Consistent sequence-header (r .«record») × Spells sequence-header (r .«record») xs × (sequence-header .coded (r .«record») ≡ r .«record»)
+accepted-is-spelled xs X a e =
+    let g = was-read (read sequence-header xs) (sym (ap (λ (x : SequenceAnswer). x .outcome) a) ∙ e) in
+    rw a (sequence-demand3 .accepted-is-spelled xs X _ (g .0) (g .1))
+
+-- .. and every spelling is accepted, with the record's coded fields.
+pub spelled-is-accepted : (h : SequenceHeaderObu) (xs : List ℕ) → Spells sequence-header h xs → {r : SequenceAnswer} → Answers xs r → r ≡ record { outcome = Done; «record» = sequence-header .coded h }
+unfolding answerFor
+spelled-is-accepted h xs s a = a ∙ rw (sequence-demand3 .spelled-is-accepted h xs s)
+
+-- The bytes fix every coded field.
+pub fields-are-fixed : (h k : SequenceHeaderObu) (xs : List ℕ) → Spells sequence-header h xs → Spells sequence-header k xs → sequence-header .coded h ≡ sequence-header .coded k
+fields-are-fixed = sequence-demand3 .fields-are-fixed
+
+-- Written again with room enough, a record that has a spelling gives its one shortest, and every byte beyond is kept.
+pub written-again : (h : SequenceHeaderObu) (xs : List ℕ) → Spells sequence-header h xs
+    → (es : List ℕ) × Shortest sequence-header h es × ((buffer : List ℕ) → AreBytes buffer → length es ≤ length buffer → length buffer ≤ 65536
+    → (w : Answer) (ys : List ℕ) → Writes (sequence-header .enc h) buffer w ys → (w ≡ W.Done (length es)) × (ys ≡ es ++ drop (length es) buffer))
+written-again h xs s =
+    let g = sequence-demand3 .written-again h xs s in
+    (g .0, g .1, λ buffer B l m w ys. as-given (g .0) buffer (g .2 buffer B l m))
+  where
+    as-given : (es buffer : List ℕ) → written (sequence-header .enc h) buffer ≡ record { answer = W.Done (length es); bytes = es ++ drop (length es) buffer } → {w : Answer} {ys : List ℕ} → Writes (sequence-header .enc h) buffer w ys → (w ≡ W.Done (length es)) × (ys ≡ es ++ drop (length es) buffer)
+    as-given es buffer e (writes p q) = (p ∙ ap (λ (x : Written). x .answer) e, q ∙ ap (λ (x : Written). x .bytes) e)

@@ -1,0 +1,10 @@
+pub mod Zeros
+pub mod FieldReading
+pub mod ToolReading
+pub mod ArrayReading
+pub mod BesideReading
+pub mod PointReading
+pub mod SequenceReading
+pub mod Answering
+pub mod PayloadParts
+pub mod Demand

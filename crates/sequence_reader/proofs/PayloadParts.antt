@@ -1,0 +1,77 @@
+-- Where the payload begins, and the part that is handed back.
+use mathlib.Core.Path.{_≡_, refl, sym, ap, _∙_}
+use mathlib.Core.List.{List}
+use Prim.Native.Nat.{ℕ, _-_, _/_, _≤_}
+use native.Mathlib.Omega.{arith}
+use lib.ListN.{length, take, drop}
+use Rattle.bits.specs.Bits.{end}
+use Rattle.bits.specs.Codec.{Got, got, stop, nil}
+use Rattle.bits.specs.Answers.{found, Said, step}
+use Rattle.bits.specs.declared.answer.Cursor.{Cursor}
+use Rattle.bits.specs.declared.answer.Refusal.{Refusal}
+use Rattle.bits.specs.declared.answer.Step.{Step}
+use Rattle.bits.specs.declared.answer.Step.the-variants as S
+use Rattle.bits.proofs.Places.{end-is, length-from}
+use Rattle.bits.proofs.Reading.{is, is-not}
+use Rattle.obu.specs.declared.header.ObuHeader.{ObuHeader}
+use Rattle.obu.specs.declared.read.GotHeader.{GotHeader}
+use Rattle.obu.specs.declared.read.GotHeader.the-variants as H
+use Rattle.obu.specs.Answers.{header}
+use Rattle.obu.specs.Header.{obu-header}
+use Rattle.obu.specs.Frame.{readSize}
+use Rattle.obu.specs.Demand3.{read}
+use Rattle.obu.proofs.Writing.{origin}
+use Rattle.sequence.specs.declared.record.SequenceHeaderObu.{SequenceHeaderObu}
+use Rattle.sequence.specs.Sequence.{sequence-header}
+use Rattle.sequence_reader.specs.declared.read.SequenceAnswer.{SequenceAnswer}
+use Rattle.sequence_reader.specs.declared.read.Outcome.{Outcome}
+use Rattle.sequence_reader.specs.declared.read.Outcome.the-variants.{Done, Refused}
+use Rattle.sequence_reader.specs.Reader.{answerFor}
+use Rattle.sequence_reader.specs.Payload.{behind, partFor, payloadPart, part}
+
+none : (n : ℕ) → n ≡ n - 0 / 8
+none n = omega arith
+
+module _ (xs : List ℕ) {g : GotHeader} (head : Said header (obu-header 1 .dec) xs origin g) where
+  pub behind-none : {z : Refusal} → g ≡ H.Refused z → length xs ≡ behind xs
+  unfolding behind found
+  behind-none {z} e = rw (is-not {y = z} {z = z} head e (rw e) .finds) (none (length xs))
+
+  module _ {h : ObuHeader} {c : Cursor} (e : g ≡ H.Value h c) {s : Step} (Z : Said step (readSize (h .«has_size_field»)) xs c s) where
+    pub behind-no : {z : Refusal} → s ≡ S.Refused z → length xs ≡ behind xs
+    unfolding behind found
+    behind-no {z} f = rw (is {a = h} {q = c} head e .finds, is-not {y = z} {z = z} Z f (rw f) .finds) (none (length xs))
+
+    pub behind-is : {d : Cursor} {n : ℕ} → s ≡ S.Next d → n ≡ end xs - d .at → length xs - n / 8 ≡ behind xs
+    unfolding behind found
+    behind-is {d} f k = rw (is {a = h} {q = c} head e .finds, is {a = nil} {q = d} Z f .finds, length-from xs (d .at), k)
+
+pub bits-within : (xs : List ℕ) (at n : ℕ) → n ≡ end xs - at → n / 8 ≤ length xs
+bits-within xs at n k = omega (arith, end-is xs)
+
+behind-within : (xs : List ℕ) → behind xs ≤ length xs
+unfolding behind
+behind-within xs = omega arith
+
+pub behind-inside : (xs : List ℕ) {n : ℕ} → n ≡ behind xs → n ≤ length xs
+behind-inside xs e = rw e (behind-within xs)
+
+module _ (xs : List ℕ) {a : SequenceAnswer} (e : a ≡ answerFor (read sequence-header xs)) where
+  told : {o : Outcome} → a .outcome ≡ o → answerFor (read sequence-header xs) .outcome ≡ o
+  told h = sym (ap (λ (x : SequenceAnswer). x .outcome) e) ∙ h
+
+  pub part-none : {z : Refusal} → a .outcome ≡ Refused z → take 0 (drop 0 xs) ≡ part (payloadPart xs) xs
+  unfolding payloadPart answerFor
+  part-none {z} h = go (read sequence-header xs) (told h)
+    where
+      go : (g : Got SequenceHeaderObu) → answerFor g .outcome ≡ Refused z → take 0 (drop 0 xs) ≡ part (partFor g xs) xs
+      go (got v rest) q = absurd (let n : _≡_ {A = ℕ} 0 1 = cc in omega arith)
+      go (stop r) q = refl
+
+  pub part-some : {n : ℕ} → a .outcome ≡ Done → n ≡ behind xs → take (length xs - n) (drop n xs) ≡ part (payloadPart xs) xs
+  unfolding payloadPart answerFor
+  part-some {n} h k = rw k (go (read sequence-header xs) (told h))
+    where
+      go : (g : Got SequenceHeaderObu) → answerFor g .outcome ≡ Done → take (length xs - behind xs) (drop (behind xs) xs) ≡ part (partFor g xs) xs
+      go (got v rest) q = refl
+      go (stop r) q = absurd (let n : _≡_ {A = ℕ} 0 1 = cc in omega arith)

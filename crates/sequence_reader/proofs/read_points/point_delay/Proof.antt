@@ -1,0 +1,17 @@
+use borrow.Author.Needs.{needs}
+use Rattle.bits.specs.Codec.{f}
+use Rattle.sequence.specs.Points.{point-delay}
+use Rattle.bits.proofs.Reading.{readings}
+use Rattle.sequence_reader.proofs.read_points.point_delay.Statement.{statement}
+use Rattle.sequence_reader.proofs.read_points.point_delay.Tie as tie
+
+pub point-delay-spec : {M : Type 1} → statement M
+unfolding point-delay f
+point-delay-spec =
+    tie.close
+    (tie.spec
+    (λ c. search readings depth 14)
+    (λ c κs. search needs) (λ c. search needs) (λ c. search needs) (λ c κs. search needs) (λ c. search readings depth 14)
+    (λ c. search readings depth 14)
+    (λ c κs. search needs) (λ c. search needs) (λ c. search needs) (λ c κs. search needs) (λ c. search readings depth 14)
+    (λ c. search readings depth 14))

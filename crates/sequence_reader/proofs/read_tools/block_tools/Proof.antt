@@ -1,0 +1,15 @@
+use borrow.Author.Needs.{needs}
+use Rattle.sequence.specs.Tools.{block-tools}
+use Rattle.bits.proofs.Reading.{readings}
+use Rattle.sequence_reader.proofs.read_tools.block_tools.Statement.{statement}
+use Rattle.sequence_reader.proofs.read_tools.block_tools.Tie as tie
+
+pub block-tools-spec : {M : Type 1} → statement M
+unfolding block-tools
+block-tools-spec =
+    tie.close
+    (tie.spec
+    (λ c κs. search needs) (λ c. search needs) (λ c. search needs) (λ c κs. search needs) (λ c. search readings depth 14)
+    (λ c κs. search needs) (λ c. search needs) (λ c. search needs) (λ c κs. search needs) (λ c. search readings depth 14)
+    (λ c κs. search needs) (λ c. search needs) (λ c. search needs) (λ c κs. search needs) (λ c. search readings depth 14)
+    (λ c. search readings depth 14))

@@ -1,0 +1,16 @@
+use borrow.Author.Needs.{needs}
+use Rattle.bits.specs.Codec.{f, select, inferred}
+use Rattle.sequence.specs.Optional.{f-if}
+use Rattle.sequence.specs.Tools.{choice}
+use Rattle.bits.proofs.Reading.{readings}
+use Rattle.sequence_reader.proofs.read_tools.choice.Statement.{statement}
+use Rattle.sequence_reader.proofs.read_tools.choice.Tie as tie
+
+pub choice-spec : {M : Type 1} → statement M
+unfolding choice f f-if select inferred
+choice-spec =
+    tie.close
+    (tie.spec
+    (λ c κs. search needs) (λ c. search needs) (λ c. search needs) (λ c κs. search needs) (λ c. search readings depth 14)
+    (λ c κs. search needs) (λ c. search needs) (λ c. search needs) (λ c κs. search needs) (λ c. search readings depth 14)
+    (λ c. search readings depth 14))

@@ -1,0 +1,15 @@
+use borrow.Author.Needs.{needs}
+use Rattle.sequence.specs.Tools.{motion-tools}
+use Rattle.sequence_reader.proofs.ToolReading.{tool-readings}
+use Rattle.sequence_reader.proofs.read_tools.motion_tools.Statement.{statement}
+use Rattle.sequence_reader.proofs.read_tools.motion_tools.Tie as tie
+
+pub motion-tools-spec : {M : Type 1} → statement M
+unfolding motion-tools
+motion-tools-spec =
+    tie.close
+    (tie.spec
+    (λ c κs. search needs) (λ c. search needs) (λ c. search needs) (λ c κs. search needs) (λ c. search tool-readings depth 14)
+    (λ c κs. search needs) (λ c. search needs) (λ c. search needs) (λ c κs. search needs) (λ c. search tool-readings depth 14)
+    (λ c κs. search needs) (λ c. search needs) (λ c. search needs) (λ c κs. search needs) (λ c. search tool-readings depth 14)
+    (λ c. search tool-readings depth 14))

@@ -1,0 +1,6 @@
+pub mod Forms
+pub mod Tails
+pub mod Zeros
+pub mod Beside
+pub mod Reader
+pub mod Payload

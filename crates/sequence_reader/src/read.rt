@@ -1,0 +1,101 @@
+// The public calls: a sequence header OBU, read, and its payload.
+use crate::none::no_record;
+use crate::read_body::sequence_header_obu;
+use bits::answer::Cursor;
+use bits::answer::Refusal;
+use bits::answer::Step;
+use bits::answer::why_step;
+use obu::read::GotHeader;
+use obu::read::obu_header;
+use obu::read::obu_size;
+use obu::read::trailing_bits;
+use obu::read::why_header;
+use reader::rest;
+use sequence::record::SequenceHeaderObu;
+ghost use mathlib.Core.Path.{_≡_};
+ghost use Rattle.obu.specs.Demand3.{read};
+ghost use Rattle.sequence.specs.Sequence.{sequence-header};
+ghost use Rattle.sequence_reader.specs.Reader.{refusedAs, answerFor};
+ghost use Rattle.sequence_reader.specs.Payload.{behind, payloadPart, part};
+
+pub enum Outcome {
+    // The record was read.
+    Done,
+    // Why none was.
+    Refused(Refusal),
+}
+
+// The record is that of zeros where the outcome is a refusal.
+pub struct SequenceAnswer {
+    pub outcome: Outcome,
+    pub record: SequenceHeaderObu,
+}
+
+fn refuse(r: Refusal) -> SequenceAnswer
+    ensures { λ a. ⌜ a ≡ refusedAs r ⌝ }
+{
+    let record = no_record();
+    SequenceAnswer {
+        outcome: Outcome::Refused(r),
+        record,
+    }
+}
+
+// One OBU, the whole of `input`.
+pub fn read_sequence_header(input: &[u8]) -> SequenceAnswer
+    ensures { λ r. ⌜ r ≡ answerFor (read sequence-header (now (input .entry))) ⌝ }
+{
+    if 65536 < input.len() {
+        return refuse(Refusal::Long);
+    }
+    let g = obu_header(input, Cursor { at: 0 }, 1);
+    let GotHeader::Value(header, c) = g else {
+        return refuse(why_header(g));
+    };
+    let z = obu_size(input, c, header.has_size_field);
+    let Step::Next(c) = z else {
+        return refuse(why_step(z));
+    };
+    let r = sequence_header_obu(input, c, header);
+    let o = r.outcome;
+    let Step::Next(c) = o else {
+        return refuse(why_step(o));
+    };
+    let u = trailing_bits(input, c);
+    let Step::Next(_) = u else {
+        return refuse(why_step(u));
+    };
+    let record = r.sequence_header;
+    SequenceAnswer {
+        outcome: Outcome::Done,
+        record,
+    }
+}
+
+// The byte behind the size field, or behind the header if there is none; the end where they are refused.
+fn behind(input: &[u8]) -> usize
+    ensures { λ r. ⌜ r ≡ behind (now (input .entry)) ⌝ }
+{
+    let g = obu_header(input, Cursor { at: 0 }, 1);
+    let GotHeader::Value(header, c) = g else {
+        return input.len();
+    };
+    let z = obu_size(input, c, header.has_size_field);
+    let Step::Next(c) = z else {
+        return input.len();
+    };
+    input.len() - rest(input, c.at) / 8
+}
+
+// The payload of an OBU that is accepted, as a part of `input`; its first zero bytes where it is refused.
+pub fn payload(input: &[u8]) -> &[u8]
+    ensures { λ r. ⌜ now r ≡ part (payloadPart (now (input .entry))) (now (input .entry)) ⌝ }
+{
+    let a = read_sequence_header(input);
+    let o = a.outcome;
+    let Outcome::Done = o else {
+        return &input[0..0];
+    };
+    let at = behind(input);
+    &input[at..]
+}

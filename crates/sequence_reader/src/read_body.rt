@@ -1,0 +1,307 @@
+// 5.5.1 sequence_header_obu, read.
+use crate::got::GotBlockTools;
+use crate::got::GotColorConfig;
+use crate::got::GotFilterTools;
+use crate::got::GotFrameIds;
+use crate::got::GotFrameSize;
+use crate::got::GotGeneral;
+use crate::got::GotInterTools;
+use crate::got::GotRest;
+use crate::got::GotSequence;
+use crate::got::GotTiming;
+use crate::got::Rest;
+use crate::got::why_block_tools;
+use crate::got::why_color_config;
+use crate::got::why_filter_tools;
+use crate::got::why_frame_ids;
+use crate::got::why_frame_size;
+use crate::got::why_inter_tools;
+use crate::got::why_rest;
+use crate::got::why_timing;
+use crate::none::no_points;
+use crate::none::no_record;
+use crate::none::no_timing;
+use crate::read_color::color_config;
+use crate::read_frame::frame_ids;
+use crate::read_frame::frame_size;
+use crate::read_points::points;
+use crate::read_points::reduced_points;
+use crate::read_timing::timing;
+use crate::read_tools::block_tools;
+use crate::read_tools::filter_tools;
+use crate::read_tools::inter_tools;
+use bits::answer::Cursor;
+use bits::answer::GotFlag;
+use bits::answer::GotNumber;
+use bits::answer::Refusal;
+use bits::answer::Step;
+use bits::answer::why_flag;
+use bits::answer::why_number;
+use bits::answer::why_step;
+use bits::element::SEQ_PROFILE;
+use obu::header::ObuHeader;
+use reader::f;
+use reader::flag;
+use sequence::group::BlockTools;
+use sequence::group::FrameIds;
+use sequence::group::FrameSize;
+use sequence::group::InterTools;
+use sequence::record::SequenceHeaderObu;
+ghost use mathlib.Core.Path.{_≡_};
+ghost use Rattle.bits.specs.Answers.{Said, Tells};
+ghost use Rattle.bits.specs.Answers as form;
+ghost use Rattle.bits.specs.declared.answer.Step.the-variants as S;
+ghost use Rattle.sequence.specs.Sequence.{profile, full-general, reduced-general, general, tools, body, sequence-header-obu};
+ghost use Rattle.sequence_reader.specs.Forms as got;
+ghost use Rattle.sequence_reader.specs.Tails.{rest-in, tools-with, filters-with, body-rest, tools-rest, body-with, record-with};
+ghost use Rattle.sequence_reader.specs.Beside.{Beside, TellsBeside};
+
+fn profile(s: &[u8], c: Cursor) -> GotNumber
+    ensures { λ r. ⌜ Said form.number (profile .dec) (now (s .entry)) c r ⌝ }
+{
+    let g = f(s, c, 3);
+    let GotNumber::Value(v, c) = g else {
+        return g;
+    };
+    if v <= 2 {
+        return GotNumber::Value(v, c);
+    }
+    GotNumber::Refused(Refusal::Inconsistent(SEQ_PROFILE, 0))
+}
+
+fn refused_general(r: Refusal) -> GotGeneral
+    ensures { λ g. ⌜ g .outcome ≡ S.Refused r ⌝ }
+{
+    let timing = no_timing();
+    let points = no_points();
+    GotGeneral {
+        outcome: Step::Refused(r),
+        timing,
+        points,
+    }
+}
+
+fn full_general(s: &[u8], c: Cursor) -> GotGeneral
+    ensures { λ r. ⌜ Beside (full-general .dec) (now (s .entry)) c (r .outcome) (r .timing, r .points) ⌝ }
+{
+    let t = timing(s, c);
+    let GotTiming::Value(timing, c) = t else {
+        return refused_general(why_timing(t));
+    };
+    let d = timing.decoder_model_info;
+    let k = d.buffer_delay_length_minus_1 as u32 + 1;
+    let p = points(s, c, timing.decoder_model_info_present_flag, k);
+    let outcome = p.outcome;
+    let points = p.points;
+    GotGeneral {
+        outcome,
+        timing,
+        points,
+    }
+}
+
+fn reduced_general(s: &[u8], c: Cursor) -> GotGeneral
+    ensures { λ r. ⌜ Beside (reduced-general .dec) (now (s .entry)) c (r .outcome) (r .timing, r .points) ⌝ }
+{
+    let p = reduced_points(s, c);
+    let outcome = p.outcome;
+    let timing = no_timing();
+    let points = p.points;
+    GotGeneral {
+        outcome,
+        timing,
+        points,
+    }
+}
+
+fn general(s: &[u8], c: Cursor, reduced: bool) -> GotGeneral
+    ensures { λ r. ⌜ Beside (general reduced .dec) (now (s .entry)) c (r .outcome) (r .timing, r .points) ⌝ }
+{
+    if reduced {
+        return reduced_general(s, c);
+    }
+    full_general(s, c)
+}
+
+// From enable_superres on.
+fn tools_rest(
+    s: &[u8],
+    c: Cursor,
+    profile: u32,
+    frame_size: FrameSize,
+    frame_ids: FrameIds,
+    block_tools: BlockTools,
+    inter_tools: InterTools,
+) -> GotRest
+    ensures { λ r. ⌜ Tells got.rest (filters-with «frame_size» «frame_ids» «block_tools» «inter_tools») (tools-rest profile) (now (s .entry)) c r ⌝ }
+{
+    let g = filter_tools(s, c);
+    let GotFilterTools::Value(filter_tools, c) = g else {
+        return GotRest::Refused(why_filter_tools(g));
+    };
+    let g = color_config(s, c, profile);
+    let GotColorConfig::Value(color_config, c) = g else {
+        return GotRest::Refused(why_color_config(g));
+    };
+    let b = flag(s, c);
+    let GotFlag::Value(film_grain_params_present, c) = b else {
+        return GotRest::Refused(why_flag(b));
+    };
+    GotRest::Value(
+        Rest {
+            frame_size,
+            frame_ids,
+            block_tools,
+            inter_tools,
+            filter_tools,
+            color_config,
+            film_grain_params_present,
+        },
+        c,
+    )
+}
+
+fn tools(
+    s: &[u8],
+    c: Cursor,
+    profile: u32,
+    reduced: bool,
+    frame_size: FrameSize,
+    frame_ids: FrameIds,
+) -> GotRest
+    ensures { λ r. ⌜ Tells got.rest (tools-with «frame_size» «frame_ids») (tools profile reduced) (now (s .entry)) c r ⌝ }
+{
+    let g = block_tools(s, c);
+    let GotBlockTools::Value(block, c) = g else {
+        return GotRest::Refused(why_block_tools(g));
+    };
+    let g = inter_tools(s, c, reduced);
+    let GotInterTools::Value(inter, c) = g else {
+        return GotRest::Refused(why_inter_tools(g));
+    };
+    tools_rest(s, c, profile, frame_size, frame_ids, block, inter)
+}
+
+fn body_rest(s: &[u8], c: Cursor, profile: u32, reduced: bool) -> GotRest
+    ensures { λ r. ⌜ Tells got.rest rest-in (body-rest profile reduced) (now (s .entry)) c r ⌝ }
+{
+    let g = frame_size(s, c);
+    let GotFrameSize::Value(size, c) = g else {
+        return GotRest::Refused(why_frame_size(g));
+    };
+    let g = frame_ids(s, c, reduced);
+    let GotFrameIds::Value(ids, c) = g else {
+        return GotRest::Refused(why_frame_ids(g));
+    };
+    tools(s, c, profile, reduced, size, ids)
+}
+
+fn refused_record(r: Refusal) -> GotSequence
+    ensures { λ g. ⌜ g .outcome ≡ S.Refused r ⌝ }
+{
+    let h = no_record();
+    GotSequence {
+        outcome: Step::Refused(r),
+        sequence_header: h,
+    }
+}
+
+fn body(
+    s: &[u8],
+    c: Cursor,
+    obu_header: ObuHeader,
+    seq_profile: u32,
+    still_picture: bool,
+    reduced: bool,
+) -> GotSequence
+    ensures { λ r. ⌜ TellsBeside (body-with «obu_header» «seq_profile» «still_picture» reduced) (body «seq_profile» reduced) (now (s .entry)) c (r .outcome) (r .«sequence_header») ⌝ }
+{
+    let g = general(s, c, reduced);
+    let o = g.outcome;
+    let Step::Next(c) = o else {
+        return refused_record(why_step(o));
+    };
+    let t = g.timing;
+    let p = g.points;
+    let r = body_rest(s, c, seq_profile, reduced);
+    let GotRest::Value(rest, c) = r else {
+        return refused_record(why_rest(r));
+    };
+    let timing_info = t.timing_info;
+    let decoder_model_info = t.decoder_model_info;
+    let operating_points = p.operating_points;
+    let size = rest.frame_size;
+    let ids = rest.frame_ids;
+    let block = rest.block_tools;
+    let inter = rest.inter_tools;
+    let hint_tools = inter.hint_tools;
+    let screen = inter.screen_content_tools;
+    let integer = inter.integer_mv;
+    let hint_bits = inter.hint_bits;
+    let filter = rest.filter_tools;
+    let color_config = rest.color_config;
+    let h = SequenceHeaderObu {
+        obu_header,
+        seq_profile,
+        still_picture,
+        reduced_still_picture_header: reduced,
+        timing_info_present_flag: t.timing_info_present_flag,
+        timing_info,
+        decoder_model_info_present_flag: t.decoder_model_info_present_flag,
+        decoder_model_info,
+        initial_display_delay_present_flag: p.initial_display_delay_present_flag,
+        operating_points_cnt_minus_1: p.operating_points_cnt_minus_1,
+        operating_points,
+        frame_width_bits_minus_1: size.frame_width_bits_minus_1,
+        frame_height_bits_minus_1: size.frame_height_bits_minus_1,
+        max_frame_width_minus_1: size.max_frame_width_minus_1,
+        max_frame_height_minus_1: size.max_frame_height_minus_1,
+        frame_id_numbers_present_flag: ids.frame_id_numbers_present_flag,
+        delta_frame_id_length_minus_2: ids.delta_frame_id_length_minus_2,
+        additional_frame_id_length_minus_1: ids.additional_frame_id_length_minus_1,
+        use_128x128_superblock: block.use_128x128_superblock,
+        enable_filter_intra: block.enable_filter_intra,
+        enable_intra_edge_filter: block.enable_intra_edge_filter,
+        enable_interintra_compound: inter.enable_interintra_compound,
+        enable_masked_compound: inter.enable_masked_compound,
+        enable_warped_motion: inter.enable_warped_motion,
+        enable_dual_filter: inter.enable_dual_filter,
+        enable_order_hint: inter.enable_order_hint,
+        enable_jnt_comp: hint_tools.enable_jnt_comp,
+        enable_ref_frame_mvs: hint_tools.enable_ref_frame_mvs,
+        seq_choose_screen_content_tools: screen.seq_choose,
+        seq_force_screen_content_tools: screen.seq_force,
+        seq_choose_integer_mv: integer.seq_choose,
+        seq_force_integer_mv: integer.seq_force,
+        order_hint_bits_minus_1: hint_bits.order_hint_bits_minus_1,
+        order_hint_bits: hint_bits.order_hint_bits,
+        enable_superres: filter.enable_superres,
+        enable_cdef: filter.enable_cdef,
+        enable_restoration: filter.enable_restoration,
+        color_config,
+        film_grain_params_present: rest.film_grain_params_present,
+    };
+    GotSequence {
+        outcome: Step::Next(c),
+        sequence_header: h,
+    }
+}
+
+// 5.5.1, with the header that stands before it.
+pub fn sequence_header_obu(s: &[u8], c: Cursor, obu_header: ObuHeader) -> GotSequence
+    ensures { λ r. ⌜ TellsBeside (record-with «obu_header») sequence-header-obu (now (s .entry)) c (r .outcome) (r .«sequence_header») ⌝ }
+{
+    let g = profile(s, c);
+    let GotNumber::Value(seq_profile, c) = g else {
+        return refused_record(why_number(g));
+    };
+    let b = flag(s, c);
+    let GotFlag::Value(still_picture, c) = b else {
+        return refused_record(why_flag(b));
+    };
+    let b = flag(s, c);
+    let GotFlag::Value(reduced, c) = b else {
+        return refused_record(why_flag(b));
+    };
+    body(s, c, obu_header, seq_profile, still_picture, reduced)
+}
