@@ -1,16 +1,5 @@
 pub mod Signs
-pub mod Clipping
 pub mod Pairs
 pub mod Flags
-pub mod Deltas
-pub mod CdefSteps
-pub mod RestorationSteps
-pub mod LoopFilterSteps
-pub mod SegmentationSteps
 pub mod Writing
 pub mod Laws
-pub mod QuantizationLaws
-pub mod CdefLaws
-pub mod RestorationLaws
-pub mod LoopFilterLaws
-pub mod SegmentationLaws

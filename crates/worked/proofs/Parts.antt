@@ -11,11 +11,11 @@ use Rattle.bits.specs.Walk.{run, join, wrote}
 use Rattle.bits.specs.Codec.{_▷_, choose, select, checked, via, merged, recode, array, f, flag, absent, inferred, inferredFlag}
 use Rattle.bits.specs.Codes.{su}
 use Rattle.parts.specs.Codes.{inferredSigned, zip}
-use Rattle.parts.specs.Quantization.{read-delta-q, diff-uv, v-coded, v-inferred, v-deltas, uv-deltas, no-uv-deltas, three-planes, one-plane, chroma, v-matrix, matrices, qmatrix, quantization-table, quantization-params}
-use Rattle.parts.specs.Cdef.{damping, secondary, strength, strengths, each-strength, on-table, cdef-on, cdef-off, cdef-params}
-use Rattle.parts.specs.Restoration.{small-shift, unit-shift}
-use Rattle.parts.specs.declared.cdef.CdefParams.{CdefParams}
-use Rattle.parts.specs.declared.quantization.QuantizationParams.{QuantizationParams}
+use Rattle.quantization.specs.Quantization.{read-delta-q, diff-uv, v-coded, v-inferred, v-deltas, uv-deltas, no-uv-deltas, three-planes, one-plane, chroma, v-matrix, matrices, qmatrix, quantization-table, quantization-params}
+use Rattle.cdef.specs.Cdef.{damping, secondary, strength, strengths, each-strength, on-table, cdef-on, cdef-off, cdef-params}
+use Rattle.restoration.specs.Restoration.{small-shift, unit-shift}
+use Rattle.cdef.specs.declared.CdefParams.{CdefParams}
+use Rattle.quantization.specs.declared.QuantizationParams.{QuantizationParams}
 
 -- bits as they are printed
 unfoldable pub digits : List ℕ → Bits

@@ -1,0 +1,92 @@
+-- How the functions of 5.9.19 meet their tables.
+use mathlib.Core.Path.{_≡_, refl, sym, ap, _∙_}
+use mathlib.Core.List.{List}
+use mathlib.Core.Logic.{⊎-elim}
+use mathlib.Core.Bool.{Bool, true, false, not}
+use Prim.Native.Nat.{ℕ, zero, suc, _+_, _-_, _^_, _≤_, _<_, min}
+use native.Mathlib.Omega.{arith}
+use lib.ListN.{getD}
+use lib.Dec.{eqb, ltb, lit<}
+use lib.Pow.{pow-mono}
+use borrow.Author.Tests.{lt-ltb, le-ltb, eq-eqb, ne-eqb}
+use Rattle.bits.specs.Walk.{Walk, none, field, either, _⊕_, run, Walked}
+use Rattle.bits.specs.Codec.{Codec, f, absent, choose, checked, recode, via, array, uncons, _▷_}
+use Rattle.bits.specs.Elements.{cdef-y-pri-strength, cdef-y-sec-strength, cdef-uv-pri-strength, cdef-uv-sec-strength, cdef-damping}
+use Rattle.bits.specs.declared.answer.Cursor.{Cursor}
+use Rattle.bits.specs.declared.answer.Refusal.the-variants.{Inconsistent, Unfit}
+use Rattle.bits.specs.declared.answer.Step.{Step}
+use Rattle.bits.specs.declared.answer.Step.the-variants.{Refused}
+use Rattle.bits.proofs.Walking.{as-run, field-refused, halt-here, held-then, broken}
+use Rattle.bits.proofs.Storing.{below-or}
+use Rattle.bits.proofs.Loops.{array-first}
+use Rattle.cdef.specs.Cdef as table
+use Rattle.cdef.specs.Cdef.{damping, swapped, secondary, strength, strengths, Strengths, each-strength, no-strength, no-place, no-strengths, strengths-out}
+use Rattle.cdef.specs.declared.CdefParams.{CdefParams}
+use Rattle.parts.proofs.Pairs.{zip-at}
+
+module _ (v : ℕ) {c : Cursor} {xs : List ℕ} where
+  pub damping-low : v < 3 → Walked (damping .enc v) c xs (Refused (Unfit cdef-damping 0)) xs
+  unfolding damping recode f
+  damping-low h = rw (lt-ltb v 3 h) (field-refused 2 4 cdef-damping 0 c xs false refl refl)
+
+  pub damping-high : {ys : List ℕ} {s : Step} → 3 ≤ v → Walked (field 2 (v - 3) cdef-damping 0) c xs s ys → Walked (damping .enc v) c xs s ys
+  unfolding damping recode f
+  damping-high h g = rw (le-ltb v 3 h) g
+
+module _ (e i v : ℕ) {c : Cursor} {xs : List ℕ} where
+  pub secondary-three : v ≡ 3 → Walked (secondary e i .enc v) c xs (Refused (Inconsistent e i)) xs
+  unfolding secondary checked recode f
+  secondary-three h = halt-here (broken (ap not (eq-eqb v 3 h)))
+
+  pub secondary-four : {ys : List ℕ} {s : Step} → v ≡ 4 → Walked (field 2 3 e i) c xs s ys → Walked (secondary e i .enc v) c xs s ys
+  unfolding secondary checked recode f
+  secondary-four h g = rw h (held-then refl g)
+
+  pub secondary-other : {ys : List ℕ} {s : Step} → (v ≡ 3 → ⊥) → (v ≡ 4 → ⊥) → Walked (field 2 v e i) c xs s ys → Walked (secondary e i .enc v) c xs s ys
+  unfolding secondary checked recode f
+  secondary-other h k g = held-then (ap not (ne-eqb v 3 h)) (rw (ne-eqb v 4 k, ne-eqb v 3 h) g)
+
+-- the strengths of one place
+luma : CdefParams → ℕ → ℕ × ℕ
+luma p i = (getD (p .«cdef_y_pri_strength») i 0, getD (p .«cdef_y_sec_strength») i 0)
+
+chroma : CdefParams → ℕ → ℕ × ℕ
+chroma p i = (getD (p .«cdef_uv_pri_strength») i 0, getD (p .«cdef_uv_sec_strength») i 0)
+
+at-place : (p : CdefParams) (i : ℕ) → getD (strengths-out p) i table.none ≡ (luma p i, chroma p i)
+unfolding luma chroma
+at-place p i = zip-at (0, 0) (0, 0) _ _ i ∙ rw (zip-at 0 0 (p .«cdef_y_pri_strength») (p .«cdef_y_sec_strength») i, zip-at 0 0 (p .«cdef_uv_pri_strength») (p .«cdef_uv_sec_strength») i)
+
+module _ (p : CdefParams) {c : Cursor} {xs ys : List ℕ} {s : Step} where
+  pub strengths-by : (planes i : ℕ)
+      → Walked (strength cdef-y-pri-strength cdef-y-sec-strength i .enc (getD (p .«cdef_y_pri_strength») i 0, getD (p .«cdef_y_sec_strength») i 0)
+      ⊕ either (eqb planes 1) none (strength cdef-uv-pri-strength cdef-uv-sec-strength i .enc (getD (p .«cdef_uv_pri_strength») i 0, getD (p .«cdef_uv_sec_strength») i 0))) c xs s ys
+      → Walked (strengths planes i .enc (getD (strengths-out p) i table.none)) c xs s ys
+  unfolding strengths _▷_ choose absent luma chroma
+  strengths-by planes i g = rw (at-place p i) g
+
+  pub no-strengths-by :
+      Walked (no-strength cdef-y-pri-strength cdef-y-sec-strength .enc (getD (p .«cdef_y_pri_strength») 0 0, getD (p .«cdef_y_sec_strength») 0 0)
+      ⊕ no-strength cdef-uv-pri-strength cdef-uv-sec-strength .enc (getD (p .«cdef_uv_pri_strength») 0 0, getD (p .«cdef_uv_sec_strength») 0 0)) c xs s ys
+      → Walked (no-strengths .enc (strengths-out p)) c xs s ys
+  unfolding no-strengths no-place _▷_ luma chroma
+  no-strengths-by g = array-first table.none (λ _. no-place) 8 (strengths-out p) (lit< tt) (rw (at-place p 0) g)
+
+-- an array codes no more places than it has
+below-both : (i n k : ℕ) → i < k → ltb i (min n k) ≡ ltb i n
+below-both i n k h = ⊎-elim
+    (λ (l : i < n). lt-ltb i (min n k) (omega arith) ∙ sym (lt-ltb i n l))
+    (λ (l : n ≤ i). le-ltb i (min n k) (omega arith) ∙ sym (le-ltb i n l))
+    (below-or i n)
+
+array-most : {A : Type 0} (z : A) (item : ℕ → Codec A) (m i n : ℕ) (vs : List A) → run (array z item m i (min n (i + m)) .enc vs) ≡ run (array z item m i n .enc vs)
+unfolding array via _▷_ choose absent run
+array-most z item zero i n vs = refl
+array-most z item (suc m) i n vs =
+    let k : i + suc m ≡ suc i + m = omega arith in
+    rw (below-both i n (i + suc m) (omega arith), k, array-most z item m (suc i) n (uncons z vs .1))
+
+pub places-by : (planes bits n : ℕ) (vs : List Strengths) {c : Cursor} {xs ys : List ℕ} {s : Step} → n ≡ min (2 ^ bits) 8
+    → Walked (each-strength planes n .enc vs) c xs s ys → Walked (each-strength planes (2 ^ bits) .enc vs) c xs s ys
+unfolding each-strength
+places-by planes bits n vs h g = as-run (array-most table.none (strengths planes) 8 0 (2 ^ bits) vs) (rw h at g)

@@ -1,0 +1,44 @@
+-- How the functions of 5.9.11 meet their tables.
+use mathlib.Core.Path.{_≡_, refl, sym, ap, _∙_}
+use mathlib.Core.List.{List}
+use mathlib.Core.Bool.{Bool, true, false, not}
+use Prim.Native.Nat.{ℕ, min}
+use borrow.Author.Tests.{eq-eqb, ne-eqb}
+use lib.Dec.{eqb}
+use lib.IntN.{ℤ, pos}
+use mir.Syntax.{w8}
+use mir.Val.{SFits, toZ, ofZ}
+use Rattle.bits.specs.Walk.{mark, Walked}
+use Rattle.bits.specs.Codec.{flag, absent, choose, merged, _▷_}
+use Rattle.bits.specs.Codes.{su}
+use Rattle.bits.specs.declared.answer.Cursor.{Cursor}
+use Rattle.bits.specs.declared.answer.Refusal.{Refusal}
+use Rattle.bits.specs.declared.answer.Step.{Step}
+use Rattle.bits.specs.declared.answer.Step.the-variants.{Next, Refused}
+use Rattle.loop_filter.specs.LoopFilter.{chroma-coded, chroma-levels, delta}
+use Rattle.parts.proofs.Signs.{word}
+use Rattle.parts.proofs.Flags.{set-halt, set-then}
+
+module _ (old : ℤ) (e i : ℕ) (z : ℤ) {c : Cursor} {xs ys : List ℕ} {s : Step} where
+  pub delta-stops : {r : Refusal} → Walked (mark true) c xs s ys → s ≡ Refused r → Walked (delta old e i .enc z) c xs s ys
+  unfolding delta merged _▷_ flag choose absent
+  delta-stops g q = set-halt refl g q
+
+  pub delta-goes : {d : Cursor} {t : Step} {zs : List ℕ} → SFits w8 z → Walked (mark true) c xs s ys → s ≡ Next d
+      → Walked (su (min 7 32) e i .enc (toZ w8 (ofZ w8 z))) d ys t zs → Walked (delta old e i .enc z) c xs t zs
+  unfolding delta merged _▷_ flag choose absent
+  delta-goes f g q k = set-then refl g q (rw (word w8 z (f .sfits)) at k)
+
+-- whether levels 2 and 3 are coded
+module _ (planes a b : ℕ) where
+  pub chroma-mono : planes ≡ 1 → false ≡ chroma-coded planes a b
+  chroma-mono h = rw (eq-eqb planes 1 h)
+
+  pub chroma-zero : (planes ≡ 1 → ⊥) → a ≡ 0 → not (eqb b 0) ≡ chroma-coded planes a b
+  chroma-zero h k = rw (ne-eqb planes 1 h, eq-eqb a 0 k)
+
+  pub chroma-some : (planes ≡ 1 → ⊥) → (a ≡ 0 → ⊥) → true ≡ chroma-coded planes a b
+  chroma-some h k = rw (ne-eqb planes 1 h, ne-eqb a 0 k)
+
+pub levels-by : (t b : Bool) (v : ℕ × ℕ) {c : Cursor} {xs ys : List ℕ} {s : Step} → t ≡ b → Walked (chroma-levels t .enc v) c xs s ys → Walked (chroma-levels b .enc v) c xs s ys
+levels-by t b v h g = rw h at g

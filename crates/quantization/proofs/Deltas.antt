@@ -1,0 +1,47 @@
+-- How read_delta_q meets its table.
+use mathlib.Core.Path.{_≡_, refl, sym, ap, _∙_}
+use mathlib.Core.List.{List}
+use mathlib.Core.Bool.{Bool, true, false, not}
+use Prim.Native.Nat.{ℕ, min}
+use lib.IntN.{ℤ, pos, negsuc}
+use mir.Syntax.{w8}
+use mir.Val.{SFits, toZ, ofZ}
+use Rattle.bits.specs.Walk.{Walked, mark, _⊕_}
+use Rattle.bits.specs.Codec.{merged, _▷_, flag, choose, absent}
+use Rattle.bits.specs.Codes.{su}
+use Rattle.bits.specs.Elements.{delta-q-u-dc, delta-q-u-ac}
+use Rattle.bits.specs.declared.answer.Cursor.{Cursor}
+use Rattle.bits.specs.declared.answer.Refusal.{Refusal}
+use Rattle.bits.specs.declared.answer.Step.{Step}
+use Rattle.bits.specs.declared.answer.Step.the-variants.{Next, Refused}
+use Rattle.parts.specs.Codes.{same}
+use Rattle.quantization.specs.Quantization.{read-delta-q, v-deltas, uv-deltas}
+use Rattle.parts.proofs.Flags.{clear, set-halt, set-then}
+use Rattle.parts.proofs.Signs.{same-eq, same-ne, word, word-is, zero-fits}
+
+module _ (z : ℤ) (f : SFits w8 z) where
+  is-zero : ofZ w8 z ≡ 0 → same z (pos 0) ≡ true
+  is-zero h = same-eq z (pos 0) (word-is w8 z (pos 0) f (zero-fits w8) h)
+
+  not-zero : (ofZ w8 z ≡ 0 → ⊥) → same z (pos 0) ≡ false
+  not-zero h = same-ne z (pos 0) (λ q. h (ap (ofZ w8) q))
+
+module _ (e : ℕ) (z : ℤ) {c : Cursor} {xs ys : List ℕ} {s : Step} (f : SFits w8 z) where
+  pub delta-zero : ofZ w8 z ≡ 0 → Walked (mark false) c xs s ys → Walked (read-delta-q e .enc z) c xs s ys
+  unfolding read-delta-q merged _▷_ flag choose absent
+  delta-zero h g = clear (ap not (is-zero z f h)) g
+
+  pub delta-halt : {r : Refusal} → (ofZ w8 z ≡ 0 → ⊥) → Walked (mark true) c xs s ys → s ≡ Refused r → Walked (read-delta-q e .enc z) c xs s ys
+  unfolding read-delta-q merged _▷_ flag choose absent
+  delta-halt h g q = set-halt (ap not (not-zero z f h)) g q
+
+  pub delta-coded : {d : Cursor} {t : Step} {zs : List ℕ} → (ofZ w8 z ≡ 0 → ⊥) → Walked (mark true) c xs s ys → s ≡ Next d
+      → Walked (su (min 7 32) e 0 .enc (toZ w8 (ofZ w8 z))) d ys t zs → Walked (read-delta-q e .enc z) c xs t zs
+  unfolding read-delta-q merged _▷_ flag choose absent
+  delta-coded h g q k = set-then (ap not (not-zero z f h)) g q (rw (word w8 z (f .sfits)) at k)
+
+-- the deltas of V go by those of U as they are coded
+pub uv-walk : (diff : Bool) (dc ac : ℤ) (v : ℤ × ℤ) {c : Cursor} {xs ys : List ℕ} {s : Step}
+    → Walked (read-delta-q delta-q-u-dc .enc dc ⊕ read-delta-q delta-q-u-ac .enc ac ⊕ v-deltas diff dc ac .enc v) c xs s ys → Walked (uv-deltas diff .enc (dc, (ac, v))) c xs s ys
+unfolding uv-deltas read-delta-q merged _▷_
+uv-walk diff dc ac v g = g

@@ -1,0 +1,15 @@
+use borrow.Author.Needs.{needs}
+use Rattle.bits.specs.Codec.{_▷_, f}
+use Rattle.quantization.specs.Quantization.{matrices}
+use Rattle.bits.proofs.Walking.{walk}
+use Rattle.quantization.proofs.matrices.Statement.{statement}
+use Rattle.quantization.proofs.matrices.Tie as tie
+
+pub matrices-spec : {M : Type 1} → statement M
+unfolding matrices _▷_ f
+matrices-spec =
+    tie.close
+    (tie.spec
+    (λ c κs. search needs) (λ c. search needs) (λ c. search needs) (λ c. search needs) (λ c. search walk depth 14)
+    (λ c κs. search needs) (λ c. search needs) (λ c. search needs) (λ c. search needs) (λ c. search walk depth 14)
+    (λ c κs. search needs) (λ c. search needs) (λ c. search walk depth 14))

@@ -1,0 +1,25 @@
+-- Two walks: `Writing` has the laws.
+use borrow.Author.Needs.{needs}
+use lib.Dec.{lit≤}
+use Rattle.bits.specs.Walk.{bound}
+use Rattle.bits.specs.Codec.{_▷_, choose, select, via, merged, recode, f, flag, absent, inferred, inferredFlag}
+use Rattle.bits.specs.Codes.{su}
+use Rattle.parts.specs.Codes.{inferredSigned}
+use Rattle.quantization.specs.Quantization.{read-delta-q, diff-uv, v-coded, v-inferred, v-deltas, uv-deltas, no-uv-deltas, three-planes, one-plane, chroma, v-matrix, matrices, qmatrix, quantization-table, quantization-params}
+use Rattle.quantization.specs.declared.QuantizationParams.{QuantizationParams}
+use Rattle.quantization.specs.declared.QuantizationContext.{QuantizationContext}
+use Rattle.parts.proofs.Writing.{Few, near, ended, filled}
+use Rattle.quantization.proofs.write_quantization_params.Statement.{statement}
+use Rattle.quantization.proofs.write_quantization_params.Tie as tie
+
+few : (k : QuantizationContext) (q : QuantizationParams) → Few (quantization-params k .enc q)
+unfolding bound read-delta-q diff-uv v-coded v-inferred v-deltas uv-deltas no-uv-deltas three-planes one-plane chroma v-matrix matrices qmatrix quantization-table quantization-params inferredSigned su _▷_ choose select via merged recode f flag absent inferred inferredFlag
+few k q = record { most = lit≤ tt }
+
+pub write-quantization-params-spec : {M : Type 1} → statement M
+write-quantization-params-spec =
+    tie.close
+    (tie.spec
+    (λ c. search needs) (λ c. search needs) (λ c. search needs) (λ c κs. search needs) (λ c κs. search (near, few))
+    (λ c. search needs) (λ c. search needs) (λ c. search needs) (λ c. search (ended, few))
+    (λ c κs. search needs) (λ c. search needs) (λ c. search (filled, few)))

@@ -1,0 +1,3 @@
+pub mod Clipping
+pub mod Steps
+pub mod Laws
