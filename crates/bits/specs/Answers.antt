@@ -2,7 +2,7 @@
 use mathlib.Core.Path.{_≡_, refl}
 use mathlib.Core.List.{List}
 use mathlib.Core.Bool.{Bool}
-use Prim.Native.Nat.{ℕ, max}
+use Prim.Native.Nat.{ℕ, min, max}
 use lib.IntN.{ℤ}
 use Rattle.bits.specs.Bits.{Bits, from, end}
 use Rattle.bits.specs.Codec.{Codec, Got, got, stop, andThen, Nil, nil}
@@ -34,6 +34,10 @@ numbered Reserved = plain 5
 numbered Size = plain 6
 numbered Trailing = plain 7
 numbered Long = plain 8
+
+-- A count goes into a u32, whose largest no walk of a public writer comes near.
+abbrev pub counted : ℕ → ℕ
+counted n = min n 4294967295
 
 -- An answer: a value (number 0) and the place behind it, or a refusal.
 pub data Answer (A : Type 0) : Type 0 where

@@ -1,6 +1,6 @@
 // A place in a slice, what each step of a walk answers, and the numbers of document 01.
 ghost use mathlib.Core.Path.{_≡_};
-ghost use Rattle.bits.specs.Answers.{plain, numbered, why, step, number, flag, signed, size};
+ghost use Rattle.bits.specs.Answers.{plain, numbered, counted, why, step, number, flag, signed, size};
 
 // Places end here, at 2^63.
 pub const LIMIT: usize = 9223372036854775808;
@@ -99,6 +99,13 @@ fn plain(number: u32) -> Numbered
         first: 0,
         second: 0,
     }
+}
+
+// n, or the largest u32.
+pub fn counted(n: usize) -> u32
+    ensures { λ r. ⌜ r ≡ counted n ⌝ }
+{
+    if n < 4294967295 { n as u32 } else { 4294967295 }
 }
 
 // The refusal that a step answered. (A step that was not refused has none: Ends stands for it.)

@@ -21,7 +21,7 @@ use Rattle.obu.specs.declared.header.ObuHeader.{ObuHeader}
 use Rattle.obu.specs.Header.{expected-type, obu-extension-header, header-end, header-table, obu-header}
 use Rattle.obu.specs.Frame.{obu-size, bytesFor, bitCount, trailing-bits, admitted, framed}
 use Rattle.obu.specs.Obu.{obu}
-use Rattle.obu.specs.Writer.{counted}
+use Rattle.bits.specs.Answers.{counted}
 use Rattle.obu.proofs.Frames.{sizeOut, framed-run, framed-inv, frame-length, tail}
 use Rattle.obu.proofs.Writing.{Few, origin, unchanged, counts}
 

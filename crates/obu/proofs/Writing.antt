@@ -19,7 +19,8 @@ use Rattle.bits.proofs.Walking.{answer, bytes, kept, bounded}
 use Rattle.bits.proofs.Storing.{put-beyond}
 use Rattle.obu.specs.declared.answer.Answer.{Answer}
 use Rattle.obu.specs.declared.answer.Answer.the-variants.{Done, Refused}
-use Rattle.obu.specs.Writer.{wholeBytes, afterWalk, answerTo, stored, Written, written, Writes, writes, counted, afterStep, verdict}
+use Rattle.bits.specs.Answers.{counted}
+use Rattle.obu.specs.Writer.{wholeBytes, afterWalk, answerTo, stored, Written, written, Writes, writes, afterStep, verdict}
 
 -- One answer, and one content of the slice
 pub only : {w : Walk} {xs ys zs : List ℕ} {a b : Answer} → Writes w xs a ys → Writes w xs b zs → (a ≡ b) × (ys ≡ zs)

@@ -2,12 +2,12 @@
 use mathlib.Core.Path.{_≡_}
 use mathlib.Core.List.{List}
 use mathlib.Core.Bool.{cond}
-use Prim.Native.Nat.{ℕ, _+_, _/_, min}
+use Prim.Native.Nat.{ℕ, _+_, _/_}
 use lib.Dec.{ltb}
 use lib.ListN.{length}
 use Rattle.bits.specs.Bits.{Bits, put}
 use Rattle.bits.specs.Walk.{Walk, End, done, refused, run}
-use Rattle.bits.specs.Answers.{numbered}
+use Rattle.bits.specs.Answers.{numbered, counted}
 use Rattle.bits.specs.declared.answer.Numbered.{Numbered}
 use Rattle.bits.specs.declared.answer.Refusal.the-variants.{Short, Long}
 use Rattle.bits.specs.declared.answer.Step.{Step}
@@ -51,9 +51,7 @@ pub data Writes (w : Walk) (xs : List ℕ) (r : Answer) (ys : List ℕ) : Type 0
   writes : r ≡ written w xs .answer → ys ≡ written w xs .bytes → Writes w xs r ys
 
 -- The same answer, told by the last step of a walk that began at place 0: so a writer's first pass ends, which goes over an empty part of the slice and
--- only counts. A number is held in a u32, whose largest no count comes near.
-abbrev pub counted : ℕ → ℕ
-counted n = min n 4294967295
+-- only counts.
 
 abbrev pub afterStep : Step → ℕ → Answer
 afterStep (Halted r) len = Refused r

@@ -2,9 +2,10 @@
 use bits::answer::Numbered;
 use bits::answer::Refusal;
 use bits::answer::Step;
+use bits::answer::counted;
 use bits::answer::numbers;
 ghost use mathlib.Core.Path.{_≡_};
-ghost use Rattle.obu.specs.Writer.{answerNumbers, counted, verdict};
+ghost use Rattle.obu.specs.Writer.{answerNumbers, verdict};
 
 pub enum Answer {
     // So many bytes were written.
@@ -24,13 +25,6 @@ pub fn answer_numbers(a: Answer) -> Numbered
         },
         Answer::Refused(r) => numbers(r),
     }
-}
-
-// n, or the largest u32.
-pub(crate) fn counted(n: usize) -> u32
-    ensures { λ r. ⌜ r ≡ counted n ⌝ }
-{
-    if n < 4294967295 { n as u32 } else { 4294967295 }
 }
 
 // A writer walks twice: first over an empty part of its slice, where nothing can be stored, and if that ends in `Done`, over the slice. This is

@@ -1,9 +1,9 @@
 // 5.3 written: the header, the size, and the trailing bits.
-use crate::answer::counted;
 use crate::header::ObuHeader;
 use bits::answer::Cursor;
 use bits::answer::Refusal;
 use bits::answer::Step;
+use bits::answer::counted;
 use bits::element::OBU_TYPE;
 use bits::element::SPATIAL_ID;
 use bits::element::TEMPORAL_ID;
@@ -13,7 +13,7 @@ use writer::leb128;
 ghost use mathlib.Core.Path.{_≡_};
 ghost use Rattle.bits.specs.Walk.{Walked};
 ghost use Rattle.obu.specs.Header.{expected-type, obu-extension-header, extension-of, header-end, end-of, obu-header};
-ghost use Rattle.obu.specs.Writer.{counted};
+ghost use Rattle.bits.specs.Answers.{counted};
 ghost use Rattle.obu.specs.Frame.{obu-size, bytesFor, trailing-bits};
 
 // obu_type, which must be t.

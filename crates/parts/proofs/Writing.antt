@@ -2,17 +2,18 @@
 use mathlib.Core.Path.{_≡_, refl, sym, ap, _∙_}
 use mathlib.Core.List.{List, [], _∷_, _++_}
 use mathlib.Core.Bool.{Bool, true, false, cond}
-use Prim.Native.Nat.{ℕ, suc, _+_, _*_, _/_, _≤_, _<_}
+use Prim.Native.Nat.{ℕ, _+_, _*_, _≤_, _<_}
 use native.Mathlib.Omega.{arith}
 use borrow.Author.Tests.{lt-ltb, le-ltb, ltb-false}
 use lib.Dec.{ltb}
 use lib.ListN.{length, take, drop}
 use mir.Syntax.{w32}
 use mir.Val.{Fits}
-use Rattle.bits.specs.Bits.{Bits, put, from, end, limit}
-use Rattle.bits.specs.Walk.{Walk, End, done, refused, Out, wrote, run, ends, stepOf, bound, forward, Walked}
-use Rattle.bits.specs.Codec.{Codec, got, nil}
+use Rattle.bits.specs.Bits.{Bits, put, from, end}
+use Rattle.bits.specs.Walk.{Walk, End, done, refused, wrote, run, ends, stepOf, bound, forward, Walked}
+use Rattle.bits.specs.Codec.{Codec, got}
 use Rattle.bits.specs.Lawful.{loose, Lawful}
+use Rattle.bits.specs.Answers.{counted}
 use Rattle.bits.specs.declared.answer.Cursor.{Cursor}
 use Rattle.bits.specs.declared.answer.Refusal.{Refusal}
 use Rattle.bits.specs.declared.answer.Refusal.the-variants.{Short, Long}
@@ -22,7 +23,7 @@ use Rattle.bits.proofs.Walking.{answer, bytes, kept, bounded}
 use Rattle.bits.proofs.Places.{end-is, put-bits, put-front}
 use Rattle.parts.specs.declared.answer.Answer.{Answer}
 use Rattle.parts.specs.declared.answer.Answer.the-variants.{Done, Refused}
-use Rattle.parts.specs.Written.{Written, keep, bytesTo, afterWalk, written, Writes, writes, reaches, verdict, Near}
+use Rattle.parts.specs.Written.{keep, bytesTo, afterWalk, written, Writes, writes, reaches, verdict}
 
 -- Two answers that the contract allows are equal, and so are two contents of the slice.
 pub only : {w : Walk} {place : ℕ} {xs ys zs : List ℕ} {r s : Answer} → Writes w place xs r ys → Writes w place xs s zs → (r ≡ s) × (ys ≡ zs)
@@ -66,11 +67,11 @@ unchanged : (w : Walk) (c : Cursor) (xs ys : List ℕ) (s : Step) → Walked w c
 unchanged w c xs ys s h = ap (λ (l : List ℕ). l ++ xs) (nil-of ys (kept h))
 
 -- what the first walk tells is the answer
-told : (t : Bool) (k : End) (bs : Bits) (place : ℕ) (xs : List ℕ) → forward place (length bs) ≡ place + length bs
+told : (t : Bool) (k : End) (bs : Bits) (place : ℕ) (xs : List ℕ) → forward place (length bs) ≡ place + length bs → place + length bs < 34359738360
     → cond t (Refused Long) (reaches (ends k (forward place (length bs))) (length xs)) ≡ cond t (keep Long xs) (afterWalk k bs place xs) .answer
-told true k bs place xs e = refl
-told false (refused r) bs place xs e = refl
-told false done bs place xs e = rw e (go (ltb (length xs * 8) (place + length bs)))
+told true k bs place xs e l = refl
+told false (refused r) bs place xs e l = refl
+told false done bs place xs e l = let n : counted (bytesTo (place + length bs)) ≡ bytesTo (place + length bs) = omega arith in rw (e, n) (go (ltb (length xs * 8) (place + length bs)))
   where
     go : (t : Bool) → cond t (Refused (Short (bytesTo (place + length bs)))) (Done (place + length bs))
         ≡ cond t (keep (Short (bytesTo (place + length bs))) xs) (record { answer = Done (place + length bs); bytes = put xs place bs }) .answer
@@ -140,17 +141,9 @@ reads-back {c = c} C a place xs ys n g =
 
 -- The two walks of a writer: over an empty slice first, which tells the answer, and then over the slice.
 module _ {w : Walk} {place : ℕ} {ys : List ℕ} {s : Step} where
-  pub near : {xs : List ℕ} → Few w → Fits w32 place → Walked w (at place) xs s ys → Near s
-  unfolding stepOf
-  near F f g = rw (answer g) (go (run w .end))
-    where
-      go : (k : End) → Near (ends k (forward place (length (run w .bits))))
-      go done = omega (arith, bounded w, F .most, f .fits)
-      go (refused r) = nil
-
   answered : (xs : List ℕ) {a : Answer} → Few w → Fits w32 place → Walked w (at place) [] s ys → a ≡ verdict s (length (ys ++ xs)) → a ≡ written w place xs .answer
   unfolding stepOf verdict written
-  answered xs F f g h = h ∙ rw (unchanged w (at place) xs ys s g, answer g) (told (ltb 65536 (length xs)) (run w .end) (run w .bits) place xs (near-end w place F (f .fits)))
+  answered xs F f g h = h ∙ rw (unchanged w (at place) xs ys s g, answer g) (told (ltb 65536 (length xs)) (run w .end) (run w .bits) place xs (near-end w place F (f .fits)) (omega (arith, bounded w, F .most, f .fits)))
 
   -- the first walk ends it
   pub ended : {xs : List ℕ} {a : Answer} {r : Refusal} → Few w → Fits w32 place → Walked w (at place) [] s ys → a ≡ verdict s (length (ys ++ xs)) → a ≡ Refused r → Writes w place xs a (ys ++ xs)

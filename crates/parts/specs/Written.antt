@@ -1,14 +1,13 @@
 -- What the writer of a part answers, and what it leaves in the slice that it is lent: for every walk, every place and every slice.
 use mathlib.Core.Path.{_≡_}
-use mathlib.Core.List.{List, []}
-use mathlib.Core.Bool.{Bool, true, false, cond}
-use Prim.Native.Nat.{ℕ, _+_, _*_, _/_, _<_}
+use mathlib.Core.List.{List}
+use mathlib.Core.Bool.{cond}
+use Prim.Native.Nat.{ℕ, _+_, _*_, _/_}
 use lib.Dec.{ltb}
 use lib.ListN.{length}
 use Rattle.bits.specs.Bits.{Bits, put}
 use Rattle.bits.specs.Walk.{Walk, End, done, refused, run}
-use Rattle.bits.specs.Codec.{Nil}
-use Rattle.bits.specs.Answers.{numbered}
+use Rattle.bits.specs.Answers.{numbered, counted}
 use Rattle.bits.specs.declared.answer.Numbered.{Numbered}
 use Rattle.bits.specs.declared.answer.Refusal.{Refusal}
 use Rattle.bits.specs.declared.answer.Refusal.the-variants.{Short, Long}
@@ -54,12 +53,7 @@ pub data Writes (w : Walk) (place : ℕ) (xs : List ℕ) (r : Answer) (ys : List
 -- What a first walk over an empty slice tells, for a slice of n bytes: there is room up to its end, or the refusal.
 abbrev pub reaches : Step → ℕ → Answer
 reaches (S.Refused r) n = Refused r
-reaches (S.Next c) n = cond (ltb (n * 8) (c .at)) (Refused (Short (bytesTo (c .at)))) (Done (c .at))
+reaches (S.Next c) n = cond (ltb (n * 8) (c .at)) (Refused (Short (counted (bytesTo (c .at))))) (Done (c .at))
 
 unfoldable pub verdict : Step → ℕ → Answer
 verdict s n = cond (ltb 65536 n) (Refused Long) (reaches s n)
-
--- a place whose bytes 32 bits count
-abbrev pub Near : Step → Type 0
-Near (S.Refused r) = Nil
-Near (S.Next c) = c .at < 34359738360

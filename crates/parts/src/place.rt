@@ -2,12 +2,12 @@
 use crate::answer::Answer;
 use bits::answer::Refusal;
 use bits::answer::Step;
+use bits::answer::counted;
 ghost use mathlib.Core.Path.{_≡_};
-ghost use Rattle.parts.specs.Written.{Near, verdict};
+ghost use Rattle.parts.specs.Written.{verdict};
 
 // What a first walk that ended with s tells, for a slice of so many bytes.
 pub fn verdict(s: Step, length: usize) -> Answer
-    requires { ⌜ Near s ⌝ }
     ensures { λ r. ⌜ r ≡ verdict s length ⌝ }
 {
     if 65536 < length {
@@ -18,7 +18,7 @@ pub fn verdict(s: Step, length: usize) -> Answer
         Step::Next(c) => {
             let end = c.at;
             if length * 8 < end {
-                return Answer::Refused(Refusal::Short(((end + 7) / 8) as u32));
+                return Answer::Refused(Refusal::Short(counted(end / 8 + (end % 8 + 7) / 8)));
             }
             Answer::Done(end as u32)
         }

@@ -6,7 +6,7 @@ use Rattle.bits.specs.Codec.{_▷_, choose, checked, recode, via, array, f, abs
 use Rattle.cdef.specs.Cdef.{damping, secondary, strength, strengths, each-strength, on-table, no-strength, no-place, no-strengths, off-table, cdef-on, cdef-off, cdef-params}
 use Rattle.cdef.specs.declared.CdefParams.{CdefParams}
 use Rattle.cdef.specs.declared.CdefContext.{CdefContext}
-use Rattle.parts.proofs.Writing.{Few, near, ended, filled}
+use Rattle.parts.proofs.Writing.{Few, ended, filled}
 use Rattle.cdef.proofs.write_cdef_params.Statement.{statement}
 use Rattle.cdef.proofs.write_cdef_params.Tie as tie
 
@@ -18,6 +18,6 @@ pub write-cdef-params-spec : {M : Type 1} → statement M
 write-cdef-params-spec =
     tie.close
     (tie.spec
-    (λ c. search needs) (λ c. search needs) (λ c. search needs) (λ c κs. search needs) (λ c κs. search (near, few))
+    (λ c. search needs) (λ c. search needs) (λ c. search needs) (λ c κs. search needs) (λ c κs. search needs)
     (λ c. search needs) (λ c. search needs) (λ c. search needs) (λ c. search (ended, few))
     (λ c κs. search needs) (λ c. search needs) (λ c. search (filled, few)))

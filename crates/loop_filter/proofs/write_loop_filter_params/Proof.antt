@@ -8,7 +8,7 @@ use Rattle.parts.specs.Codes.{inferredSigned}
 use Rattle.loop_filter.specs.LoopFilter.{chroma-levels, levels, delta, ref-deltas, mode-deltas, deltas, delta-update, rest, filter-on, default-refs, default-modes, no-levels, no-rest, filter-off, loop-filter-table, loop-filter-params, no-old}
 use Rattle.loop_filter.specs.declared.LoopFilterParams.{LoopFilterParams}
 use Rattle.loop_filter.specs.declared.LoopFilterContext.{LoopFilterContext}
-use Rattle.parts.proofs.Writing.{Few, near, ended, filled}
+use Rattle.parts.proofs.Writing.{Few, ended, filled}
 use Rattle.loop_filter.proofs.write_loop_filter_params.Statement.{statement}
 use Rattle.loop_filter.proofs.write_loop_filter_params.Tie as tie
 
@@ -20,6 +20,6 @@ pub write-loop-filter-params-spec : {M : Type 1} → statement M
 write-loop-filter-params-spec =
     tie.close
     (tie.spec
-    (λ c. search needs) (λ c. search needs) (λ c. search needs) (λ c κs. search needs) (λ c κs. search (near, few))
+    (λ c. search needs) (λ c. search needs) (λ c. search needs) (λ c κs. search needs) (λ c κs. search needs)
     (λ c. search needs) (λ c. search needs) (λ c. search needs) (λ c. search (ended, few))
     (λ c κs. search needs) (λ c. search needs) (λ c. search (filled, few)))

@@ -8,7 +8,7 @@ use Rattle.parts.specs.Codes.{inferredSigned}
 use Rattle.quantization.specs.Quantization.{read-delta-q, diff-uv, v-coded, v-inferred, v-deltas, uv-deltas, no-uv-deltas, three-planes, one-plane, chroma, v-matrix, matrices, qmatrix, quantization-table, quantization-params}
 use Rattle.quantization.specs.declared.QuantizationParams.{QuantizationParams}
 use Rattle.quantization.specs.declared.QuantizationContext.{QuantizationContext}
-use Rattle.parts.proofs.Writing.{Few, near, ended, filled}
+use Rattle.parts.proofs.Writing.{Few, ended, filled}
 use Rattle.quantization.proofs.write_quantization_params.Statement.{statement}
 use Rattle.quantization.proofs.write_quantization_params.Tie as tie
 
@@ -20,6 +20,6 @@ pub write-quantization-params-spec : {M : Type 1} → statement M
 write-quantization-params-spec =
     tie.close
     (tie.spec
-    (λ c. search needs) (λ c. search needs) (λ c. search needs) (λ c κs. search needs) (λ c κs. search (near, few))
+    (λ c. search needs) (λ c. search needs) (λ c. search needs) (λ c κs. search needs) (λ c κs. search needs)
     (λ c. search needs) (λ c. search needs) (λ c. search needs) (λ c. search (ended, few))
     (λ c κs. search needs) (λ c. search needs) (λ c. search (filled, few)))

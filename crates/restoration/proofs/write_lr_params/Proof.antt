@@ -6,7 +6,7 @@ use Rattle.bits.specs.Codec.{_▷_, choose, checked, recode, merged, via, f, fl
 use Rattle.restoration.specs.Restoration.{large-shift, small-shift, unit-shift, uv-shift, shifts, uses, kinds, three-planes, one-kind, one-plane, no-kinds, no-planes, lr-table, lr-params}
 use Rattle.restoration.specs.declared.LoopRestorationParams.{LoopRestorationParams}
 use Rattle.restoration.specs.declared.LoopRestorationContext.{LoopRestorationContext}
-use Rattle.parts.proofs.Writing.{Few, near, ended, filled}
+use Rattle.parts.proofs.Writing.{Few, ended, filled}
 use Rattle.restoration.proofs.write_lr_params.Statement.{statement}
 use Rattle.restoration.proofs.write_lr_params.Tie as tie
 
@@ -18,6 +18,6 @@ pub write-lr-params-spec : {M : Type 1} → statement M
 write-lr-params-spec =
     tie.close
     (tie.spec
-    (λ c. search needs) (λ c. search needs) (λ c. search needs) (λ c κs. search needs) (λ c κs. search (near, few))
+    (λ c. search needs) (λ c. search needs) (λ c. search needs) (λ c κs. search needs) (λ c κs. search needs)
     (λ c. search needs) (λ c. search needs) (λ c. search needs) (λ c. search (ended, few))
     (λ c κs. search needs) (λ c. search needs) (λ c. search (filled, few)))

@@ -9,7 +9,8 @@ use Rattle.bits.specs.declared.answer.Refusal.the-variants.{Short, Long}
 use Rattle.bits.specs.declared.answer.Step.{Step}
 use Rattle.bits.specs.declared.answer.Step.the-variants.{Next, Refused as Halted}
 use Rattle.obu.specs.declared.answer.Answer.the-variants.{Done, Refused}
-use Rattle.obu.specs.Writer.{wholeBytes, counted, verdict}
+use Rattle.bits.specs.Answers.{counted}
+use Rattle.obu.specs.Writer.{wholeBytes, verdict}
 use Rattle.obu.proofs.answer.verdict.Statement.{statement}
 use Rattle.obu.proofs.answer.verdict.Tie as tie
 
