@@ -15,10 +15,7 @@ use Rattle.sequence.specs.Sequence.{sequence-header}
 use Rattle.sequence.proofs.Demand.{sequence-demand3}
 use Rattle.sequence_reader.specs.declared.read.SequenceAnswer.{SequenceAnswer}
 use Rattle.sequence_reader.specs.declared.read.Outcome.the-variants.{Done}
-use Rattle.sequence_reader.specs.Reader.{answerFor}
-
-abbrev Answers : List ℕ → SequenceAnswer → Type 0
-Answers xs r = r ≡ answerFor (read sequence-header xs)
+use Rattle.sequence_reader.specs.Reader.{answerFor, Answers}
 
 -- one answer for every input
 pub only : (xs : List ℕ) {r s : SequenceAnswer} → Answers xs r → Answers xs s → r ≡ s

@@ -13,9 +13,7 @@ use obu::read::why_header;
 use reader::rest;
 use sequence::record::SequenceHeaderObu;
 ghost use mathlib.Core.Path.{_≡_};
-ghost use Rattle.obu.specs.Demand3.{read};
-ghost use Rattle.sequence.specs.Sequence.{sequence-header};
-ghost use Rattle.sequence_reader.specs.Reader.{refusedAs, answerFor};
+ghost use Rattle.sequence_reader.specs.Reader.{refusedAs, Answers};
 ghost use Rattle.sequence_reader.specs.Payload.{behind, payloadPart, part};
 
 pub enum Outcome {
@@ -43,7 +41,7 @@ fn refuse(r: Refusal) -> SequenceAnswer
 
 // One OBU, the whole of `input`.
 pub fn read_sequence_header(input: &[u8]) -> SequenceAnswer
-    ensures { λ r. ⌜ r ≡ answerFor (read sequence-header (now (input .entry))) ⌝ }
+    ensures { λ r. ⌜ Answers (now (input .entry)) r ⌝ }
 {
     if 65536 < input.len() {
         return refuse(Refusal::Long);
