@@ -1,23 +1,17 @@
 -- Signed numbers, once over the width. A signed number is a ℤ: `pos a` is a, and `negsuc m` is -(m + 1); `mag z` is a or m.
 use mathlib.Core.Path.{_≡_, refl, ap, _∙_}
-use mathlib.Core.List.{List}
 use mathlib.Core.Bool.{true, false}
-use Prim.Native.Nat.{ℕ, zero, suc, _+_, _-_, _*_, _^_, _≤_, _<_, min}
+use Prim.Native.Nat.{ℕ, zero, suc, _-_, _^_, _<_}
 use native.Mathlib.Nat.{zero-add}
 use native.Mathlib.Omega.{arith}
 use lib.IntN.{ℤ, pos, negsuc, natAbs, _-ℤ_}
 use lib.Signed.{mag, ltZ, nonNeg}
 use lib.Dec.{leb, T}
-use lib.Pow.{pow-mono}
 use mir.Syntax.{Width, w32}
 use mir.Val.{Fits, SFits, toZ, ofZ, hbits}
 use mir.Facts.{toZ-ofZ, toZ-pos, sfits-widen}
-use borrow.Author.Tests.{lt-ltb, le-ltb, le-leb, lt-leb, ltb-true}
-use Rattle.bits.specs.Walk.{field, Walked}
-use Rattle.bits.specs.Codec.{f, recode}
-use Rattle.bits.specs.Codes.{su-out, su-in, su}
-use Rattle.bits.specs.declared.answer.Cursor.{Cursor}
-use Rattle.bits.specs.declared.answer.Step.{Step}
+use borrow.Author.Tests.{le-ltb, ltb-true}
+use Rattle.bits.specs.Codec.{f}
 
 -- what the code computes of a number's sign
 flipped : (z : ℤ) → ltZ z (pos 0) ≡ true → negsuc 0 -ℤ z ≡ pos (mag z)

@@ -1,20 +1,18 @@
 -- The table of 5.9.19 keeps the laws.
-use mathlib.Core.Path.{_≡_, refl, sym, ap, _∙_}
+use mathlib.Core.Path.{_≡_, refl, sym}
 use mathlib.Core.List.{List}
-use mathlib.Core.Logic.{⊎-elim}
 use mathlib.Core.Bool.{Bool, true, false, cond, not}
-use Prim.Native.Nat.{ℕ, _+_, _-_, _<_, _≤_}
+use Prim.Native.Nat.{ℕ, _+_, _-_, _<_}
 use native.Mathlib.Omega.{arith}
 use lib.Dec.{eqb, ltb}
-use borrow.Author.Tests.{lt-ltb, le-ltb, ltb-false, ltb-true, eqb-true, ne-eqb, eqb-false}
-use Rattle.bits.specs.Bits.{Bits}
+use borrow.Author.Tests.{le-ltb, ltb-false, eqb-true}
 use Rattle.bits.specs.Codec.{f, recode}
 use Rattle.bits.specs.Lawful.{loose, Lawful}
 use Rattle.bits.specs.declared.answer.Refusal.the-variants.{Inconsistent}
-use Rattle.bits.proofs.Laws.{via-law, recode-law, checked-law, choose-law}
+use Rattle.bits.proofs.Laws.{via-law, recode-law, checked-law}
 use Rattle.bits.proofs.Leaves.{codec-laws, f-law, f-fits, array-law}
 use Rattle.parts.specs.Codes.{zip, firsts, seconds}
-use Rattle.cdef.specs.Cdef.{damping-out, damping-in, damping, swapped, secondary, Strengths, none, strength, strengths, each-strength, on-table, no-strength, no-place, no-strengths, off-table, strengths-out, cdef-in, cdef-on, cdef-off, cdef-params}
+use Rattle.cdef.specs.Cdef.{damping-out, damping-in, damping, swapped, secondary, Strengths, none, strength, strengths, each-strength, on-table, no-strength, no-place, no-strengths, off-table, cdef-on, cdef-off, cdef-params}
 use Rattle.cdef.specs.declared.CdefContext.{CdefContext}
 use Rattle.parts.proofs.Pairs.{zip-back}
 use Rattle.bits.specs.Elements.{cdef-damping}

@@ -2,14 +2,13 @@
 use mathlib.Core.Path.{_≡_, refl, sym, ap, _∙_}
 use mathlib.Core.List.{List}
 use mathlib.Core.Logic.{⊎-elim}
-use mathlib.Core.Bool.{Bool, true, false, not}
+use mathlib.Core.Bool.{false, not}
 use Prim.Native.Nat.{ℕ, zero, suc, _+_, _-_, _^_, _≤_, _<_, min}
 use native.Mathlib.Omega.{arith}
 use lib.ListN.{getD}
 use lib.Dec.{eqb, ltb, lit<}
-use lib.Pow.{pow-mono}
 use borrow.Author.Tests.{lt-ltb, le-ltb, eq-eqb, ne-eqb}
-use Rattle.bits.specs.Walk.{Walk, none, field, either, _⊕_, run, Walked}
+use Rattle.bits.specs.Walk.{none, field, either, _⊕_, run, Walked}
 use Rattle.bits.specs.Codec.{Codec, f, absent, choose, checked, recode, via, array, uncons, _▷_}
 use Rattle.bits.specs.Elements.{cdef-y-pri-strength, cdef-y-sec-strength, cdef-uv-pri-strength, cdef-uv-sec-strength, cdef-damping}
 use Rattle.bits.specs.declared.answer.Cursor.{Cursor}
@@ -20,7 +19,7 @@ use Rattle.bits.proofs.Walking.{as-run, field-refused, halt-here, held-then, br
 use Rattle.bits.proofs.Storing.{below-or}
 use Rattle.bits.proofs.Loops.{array-first}
 use Rattle.cdef.specs.Cdef as table
-use Rattle.cdef.specs.Cdef.{damping, swapped, secondary, strength, strengths, Strengths, each-strength, no-strength, no-place, no-strengths, strengths-out}
+use Rattle.cdef.specs.Cdef.{damping, secondary, strength, strengths, Strengths, each-strength, no-strength, no-place, no-strengths, strengths-out}
 use Rattle.cdef.specs.declared.CdefParams.{CdefParams}
 use Rattle.parts.proofs.Pairs.{zip-at}
 

@@ -1,6 +1,6 @@
 -- 5.9.19: the parameters of the constrained directional enhancement filter. Each table is the contract of the writer's function of its name.
 use mathlib.Core.List.{List}
-use mathlib.Core.Bool.{Bool, true, false, cond, not, _||_}
+use mathlib.Core.Bool.{cond, not, _||_}
 use Prim.Native.Nat.{ℕ, _+_, _-_, _^_}
 use lib.Dec.{eqb, ltb}
 use Rattle.bits.specs.Codec.{Codec, f, absent, inferred, choose, checked, recode, via, array, _▷_}

@@ -1,12 +1,12 @@
 -- What the parts' tables share keeps the laws of a table.
-use mathlib.Core.Path.{_≡_, refl, sym, ap, _∙_}
-use mathlib.Core.List.{List, [], _∷_, _++_}
-use mathlib.Core.Bool.{Bool, true, false, cond}
+use mathlib.Core.Path.{_≡_, sym, ap, _∙_}
+use mathlib.Core.List.{[], _++_}
+use mathlib.Core.Bool.{cond}
 use Prim.Native.Nat.{ℕ}
 use lib.IntN.{ℤ}
 use Rattle.bits.specs.Bits.{Bits}
 use Rattle.bits.specs.Walk.{wrote, refuses, run}
-use Rattle.bits.specs.Codec.{Codec, got, andThen}
+use Rattle.bits.specs.Codec.{Codec, got}
 use Rattle.bits.specs.Lawful.{Grade, loose, Lawful}
 use Rattle.bits.specs.declared.answer.Refusal.the-variants.{Inconsistent}
 use Rattle.bits.proofs.Laws.{cond-inv, refused-wrote, wrote-bits, got-value, got-rest, then-inv}

@@ -1,12 +1,11 @@
 -- What several parts' tables are made of.
 use mathlib.Core.Path.{_≡_}
 use mathlib.Core.List.{List, [], _∷_}
-use mathlib.Core.Bool.{Bool, true, false, cond}
+use mathlib.Core.Bool.{Bool, false, cond}
 use Prim.Native.Nat.{ℕ, _^_}
 use lib.Dec.{eqb}
 use lib.IntN.{ℤ, pos, negsuc}
 use lib.Signed.{ltZ}
-use Rattle.bits.specs.Bits.{Bits}
 use Rattle.bits.specs.Walk.{demand}
 use Rattle.bits.specs.Codec.{Codec, got, andThen, single, recode, f}
 use Rattle.bits.specs.declared.answer.Refusal.the-variants.{Inconsistent}

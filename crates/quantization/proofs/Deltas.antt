@@ -1,9 +1,9 @@
 -- How read_delta_q meets its table.
-use mathlib.Core.Path.{_≡_, refl, sym, ap, _∙_}
+use mathlib.Core.Path.{_≡_, ap}
 use mathlib.Core.List.{List}
 use mathlib.Core.Bool.{Bool, true, false, not}
 use Prim.Native.Nat.{ℕ, min}
-use lib.IntN.{ℤ, pos, negsuc}
+use lib.IntN.{ℤ, pos}
 use mir.Syntax.{w8}
 use mir.Val.{SFits, toZ, ofZ}
 use Rattle.bits.specs.Walk.{Walked, mark, _⊕_}

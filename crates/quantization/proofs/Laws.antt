@@ -2,10 +2,10 @@
 use mathlib.Core.Path.{_≡_, refl, sym}
 use mathlib.Core.Bool.{Bool, true, false, cond, not}
 use Prim.Native.Nat.{ℕ}
-use lib.IntN.{ℤ, pos, negsuc}
+use lib.IntN.{ℤ, pos}
 use Rattle.bits.specs.Codec.{flag, choose, recode, absent, _▷_}
 use Rattle.bits.specs.Codes.{su}
-use Rattle.bits.specs.Lawful.{Grade, loose, Lawful}
+use Rattle.bits.specs.Lawful.{loose, Lawful}
 use Rattle.bits.proofs.Laws.{via-law, merged-law}
 use Rattle.bits.proofs.Leaves.{codec-laws}
 use Rattle.bits.proofs.CodeLaws.{su-law}

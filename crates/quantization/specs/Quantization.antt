@@ -1,5 +1,5 @@
 -- 5.9.12 and 5.9.13: the quantization parameters. Each table is the contract of the writer's function of its name.
-use mathlib.Core.Bool.{Bool, true, false, cond, not}
+use mathlib.Core.Bool.{Bool, false, cond, not}
 use Prim.Native.Nat.{ℕ}
 use lib.Dec.{eqb}
 use lib.IntN.{ℤ, pos}

@@ -1,4 +1,3 @@
-use borrow.Author.Needs.{needs}
 use Rattle.loop_filter.proofs.Steps.{chroma-mono, chroma-zero, chroma-some}
 use Rattle.loop_filter.proofs.chroma_coded.Statement.{statement}
 use Rattle.loop_filter.proofs.chroma_coded.Tie as tie

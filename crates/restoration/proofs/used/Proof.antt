@@ -1,4 +1,3 @@
-use borrow.Author.Needs.{needs}
 use Rattle.restoration.proofs.Steps.{used-not, used-yes}
 use Rattle.restoration.proofs.used.Statement.{statement}
 use Rattle.restoration.proofs.used.Tie as tie
