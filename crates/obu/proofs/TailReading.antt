@@ -136,19 +136,32 @@ module _ (xs : List ℕ) (n i : ℕ) (e : n ≡ min (length xs) (limit / 8)) whe
       let k : i * 8 / 8 ≡ i = omega arith in
       rw k at (from-chunk xs (i * 8) 8 0 (omega (arith, ends xs n e)) (omega arith))
 
-  pub zero-on : i < n → getD xs i 0 ≡ 0 → allZero (from xs (i * 8)) ≡ allZero (from xs ((i + 1) * 8))
-  zero-on h z =
+  zero-byte : i < n → getD xs i 0 < 256 → allZero (from xs (i * 8)) ≡ (eqb (getD xs i 0) 0 && allZero (from xs ((i + 1) * 8)))
+  zero-byte h l =
       let k : i * 8 + 8 ≡ (i + 1) * 8 = omega arith in
-      rw (byte h, z, k) (all-append (toBits 8 (0 / 2 ^ 0)) (from xs ((i + 1) * 8)) ∙ rw (all-number 8 (0 / 2 ^ 0)))
+      let m : getD xs i 0 / 2 ^ 0 % 2 ^ 8 ≡ getD xs i 0 = omega arith in
+      rw (byte h, k) (all-append (toBits 8 (getD xs i 0 / 2 ^ 0)) (from xs ((i + 1) * 8)) ∙ rw (all-number 8 (getD xs i 0 / 2 ^ 0), m))
 
-  pub zero-no : i < n → getD xs i 0 < 256 → (getD xs i 0 ≡ 0 → ⊥) → false ≡ allZero (from xs (i * 8))
-  zero-no h l z =
-      let k : getD xs i 0 / 2 ^ 0 % 2 ^ 8 ≡ getD xs i 0 = omega arith in
-      sym (rw (byte h) (all-append (toBits 8 (getD xs i 0 / 2 ^ 0)) (from xs (i * 8 + 8)) ∙ rw (all-number 8 (getD xs i 0 / 2 ^ 0), k, ne-eqb (getD xs i 0) 0 z)))
+  pub zero-next : i < n → getD xs i 0 < 256 → (b : Bool) {t r : Bool} → r ≡ (b && eqb (getD xs i 0) 0) → (b && allZero (from xs (i * 8))) ≡ t → (r && allZero (from xs ((i + 1) * 8))) ≡ t
+  zero-next h l true q s = rw q (sym (zero-byte h l) ∙ s)
+  zero-next h l false q s = rw q s
 
   pub zero-end : n ≤ i → true ≡ allZero (from xs (i * 8))
   unfolding allZero
   zero-end h = rw (from-end xs (i * 8) (omega (arith, ends xs n e)))
+
+  pub zero-all : n ≤ i → (b : Bool) {t : Bool} → (b && allZero (from xs (i * 8))) ≡ t → b ≡ t
+  zero-all h true s = zero-end h ∙ s
+  zero-all h false s = s
+
+-- a byte more
+pub still-yes : (b : Bool) (x : ℕ) → x ≡ 0 → b ≡ (b && eqb x 0)
+still-yes true x h = sym (eq-eqb x 0 h)
+still-yes false x h = refl
+
+pub still-no : (b : Bool) (x : ℕ) → (x ≡ 0 → ⊥) → false ≡ (b && eqb x 0)
+still-no true x h = sym (ne-eqb x 0 h)
+still-no false x h = refl
 
 -- The trailing bits: the rest of a byte, and the bytes behind it
 trailing-append : (j x : ℕ) (ys : Bits) → isTrailing (toBits (suc j) x ++ ys) ≡ (isTrailing (toBits (suc j) x) && allZero ys)

@@ -19,6 +19,7 @@ ghost use mathlib.Core.Path.{_≡_};
 ghost use Prim.Native.Nat.{min, _-_, _*_, _/_, _<_};
 ghost use lib.ListN.{length};
 ghost use lib.Dec.{eqb};
+ghost use mathlib.Core.Bool.{_&&_};
 ghost use Rattle.bits.specs.Bits.{limit, from, toBits};
 ghost use Rattle.bits.specs.Codec.{zeros};
 ghost use Rattle.bits.specs.Answers.{why, Said, Tells};
@@ -194,19 +195,25 @@ fn last_one(x: u8, k: u32) -> bool
     x as u64 % (one * 2) == one
 }
 
-// Whether all bytes from i on are 0.
+// Whether a byte is 0, and so were those before it.
+fn still_zero(clear: bool, x: u8) -> bool
+    ensures { λ r. ⌜ r ≡ (clear && eqb x 0) ⌝ }
+{
+    if x == 0 { clear } else { false }
+}
+
+// Whether all bytes from i on are 0. (No way out of the loop: so it is compiled to look at many bytes at a time.)
 fn zero_bytes(s: &[u8], i: usize) -> bool
     ensures { λ r. ⌜ r ≡ allZero (from (now (s .entry)) (i * 8)) ⌝ }
 {
     let last = reach(s);
     let mut i = i;
+    let mut clear = true;
     while i < last {
-        if s[i] != 0 {
-            return false;
-        }
+        clear = still_zero(clear, s[i]);
         i += 1;
     }
-    true
+    clear
 }
 
 // 5.3.4: a one, and zeros up to the end.
