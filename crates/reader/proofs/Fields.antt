@@ -6,7 +6,8 @@ use mathlib.Core.Bool.{Bool}
 use Prim.Native.Nat.{ℕ, zero, suc, _+_, _-_, _*_, _^_, _/_, _%_, _<_, _≤_, min}
 use native.Mathlib.Omega.{arith}
 use native.Mathlib.Nat.{mod-lt, zero-add, suc-add, mul-le-mul-left}
-use lib.ListN.{length, getD}
+use lib.ListN.{length, getD, drop}
+use lib.Seq.{drop-at}
 use lib.Dec.{lit<, eqb}
 use lib.Pow.{pow-mono, pow-pos, pow-add}
 use lib.Arith.{digits-lt}
@@ -21,7 +22,7 @@ use Rattle.bits.specs.declared.answer.GotFlag.the-variants as F
 use Rattle.bits.proofs.Numbers.{length-toBits, from-to, pow-two}
 use Rattle.bits.proofs.Leaves.{take-inv}
 use Rattle.bits.proofs.Storing.{below-or}
-use Rattle.bits.proofs.Places.{end-is, length-from, from-bit, from-end, from-chunk}
+use Rattle.bits.proofs.Places.{end-is, length-from, from-bit, from-end, from-chunk, from-drop}
 
 -- k bits more behind the value acc
 unfoldable pub readOn : ℕ → ℕ → Bits → Got ℕ
@@ -84,10 +85,10 @@ pub record Fielded (xs : List ℕ) (p w acc left at : ℕ) : Type 0 where
   pub room : w ≤ end xs - p
   pub narrow : w ≤ 32
 
-pub fielded-all : (xs : List ℕ) (p w n m : ℕ) → w ≡ min n 32 → m ≡ end xs - p → w ≤ m → Fielded xs p w 0 w p
-fielded-all xs p w n m h q l =
+pub fielded-all : {xs : List ℕ} {p w : ℕ} → w ≤ 32 → w ≤ end xs - p → Fielded xs p w 0 w p
+fielded-all {xs} {p} {w} h l =
     let e : w - w ≡ 0 = omega arith in
-    record { so = read-all w (from xs p); small = rw e (lit< tt); most = omega arith; here = refl; room = omega arith; narrow = omega arith }
+    record { so = read-all w (from xs p); small = rw e (lit< tt); most = omega arith; here = refl; room = l; narrow = h }
 
 module _ {xs : List ℕ} {p w acc left at : ℕ} (g : Fielded xs p w acc left at) where
   pub inside : 0 < left → at < end xs
@@ -140,12 +141,29 @@ module _ {xs : List ℕ} {p w acc left at : ℕ} (g : Fielded xs p w acc left at
               narrow = g .narrow;
             }
 
-pub fielded-end : (n : ℕ) {xs : List ℕ} {c : Cursor} {w acc left at : ℕ} → Fielded xs (c .at) w acc left at → left ≤ 0 → w ≡ min n 32
-    → Said number (f (min n 32) 0 0 .dec) xs c (N.Value acc (record { at = at }))
-unfolding found moved
-fielded-end n {acc = acc} {left} {at} g h e =
+pub fielded-end : {xs : List ℕ} {p w acc left at : ℕ} → Fielded xs p w acc left at → left ≤ 0 → f w 0 0 .dec (from xs p) ≡ got acc (from xs (p + w))
+fielded-end {xs} {p} {w} {acc} {left} {at} g h =
     let z : left ≡ 0 = omega arith in
-    rw (← e) (said (record { finds = sym (g .so) ∙ rw z (read-none acc (from _ at)); moves = omega (arith, g .here, g .room) }))
+    let a : at ≡ p + w = omega (arith, g .here) in
+    sym (g .so) ∙ rw (z, a) (read-none acc (from xs (p + w)))
+
+-- a field that begins with the n low bits of u
+pub read-taken : (n u : ℕ) (xs : List ℕ) (at : ℕ) (ys : Bits) → from xs at ≡ toBits n u ++ ys → f n 0 0 .dec (from xs at) ≡ got (u % 2 ^ n) (from xs (at + n))
+read-taken n u xs at ys h =
+    let a : n ≡ n + 0 = omega arith in
+    let z : 0 * 2 ^ n + u % 2 ^ n ≡ u % 2 ^ n = omega arith in
+    let r : readOn 0 n (from xs at) ≡ got (u % 2 ^ n) ys = ap (readOn 0 n) h ∙ ap (λ (j : ℕ). readOn 0 j (toBits n u ++ ys)) a ∙ read-chunk 0 n 0 u ys ∙ rw z (read-none (u % 2 ^ n) ys) in
+    let d : from xs (at + n) ≡ ys = from-drop xs at n ∙ ap (drop n) h ∙ drop-at (toBits n u) ys n (length-toBits n u) in
+    sym (read-all n (from xs at)) ∙ r ∙ ap (got (u % 2 ^ n)) (sym d)
+
+-- the answer of a field of w bits, where there are m
+module _ (n w m : ℕ) (xs : List ℕ) (c : Cursor) (e : w ≡ min n 32) (q : m ≡ end xs - c .at) (h : w ≤ m) where
+  pub field-fits : c .at < 2 ^ 64 → c .at + w < 2 ^ 64
+  field-fits l = omega (arith, end-is xs)
+
+  pub field-there : {v : ℕ} → f w 0 0 .dec (from xs (c .at)) ≡ got v (from xs (c .at + w)) → Said number (f (min n 32) 0 0 .dec) xs c (N.Value v (record { at = c .at + w }))
+  unfolding found moved
+  field-there s = rw (← e) (said (record { finds = s; moves = omega arith }))
 
 pub field-ends : (n w m : ℕ) {xs : List ℕ} {c : Cursor} → w ≡ min n 32 → m ≡ end xs - c .at → m < w → Said number (f (min n 32) 0 0 .dec) xs c (N.Refused Ends)
 unfolding f found moved

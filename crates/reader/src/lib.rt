@@ -15,9 +15,10 @@ use bits::answer::Refusal;
 use bits::answer::why_flag;
 use bits::answer::why_number;
 ghost use mathlib.Core.Path.{_≡_};
-ghost use Prim.Native.Nat.{min, _+_, _-_, _/_, _%_, _^_, _≤_};
-ghost use Rattle.bits.specs.Bits.{end};
-ghost use Rattle.bits.specs.Codec.{f, flag};
+ghost use mathlib.Core.List.{_++_};
+ghost use Prim.Native.Nat.{min, _+_, _-_, _*_, _/_, _%_, _^_, _<_, _≤_};
+ghost use Rattle.bits.specs.Bits.{end, from, toBits};
+ghost use Rattle.bits.specs.Codec.{got, f, flag};
 ghost use Rattle.bits.specs.Codes.{unary, uvlc, su, leb128};
 ghost use Rattle.bits.specs.Answers.{Said};
 ghost use Rattle.bits.specs.Answers as form;
@@ -47,15 +48,47 @@ fn chunk(x: u8, k: u32, d: u32) -> u64
     y / pow2(d) % pow2(k)
 }
 
-// f(n); a width over 32, which is that of the value, counts as 32.
-pub fn f(s: &[u8], c: Cursor, n: u32) -> GotNumber
-    ensures { λ r. ⌜ Said form.number (f (min n 32) 0 0 .dec) (now (s .entry)) c r ⌝ }
+// A byte more behind the number v of those before it.
+fn behind(v: u64, x: u8) -> u64
+    requires { ⌜ v < 4294967296 ⌝ }
+    ensures { λ r. ⌜ r ≡ v * 256 + x ⌝ }
+    ensures { λ r. ⌜ x < 256 ⌝ }
 {
-    let mut left = smaller(n, 32);
-    let mut at = c.at;
-    if rest(s, at) < left as usize {
-        return GotNumber::Refused(Refusal::Ends);
+    v * 256 + x as u64
+}
+
+// The number that the five bytes from i on are.
+fn window(s: &[u8], i: usize) -> u64
+    requires { ⌜ i * 8 + 40 ≤ end (now s) ⌝ }
+    ensures { λ r. ⌜ from (now (s .entry)) (i * 8) ≡ toBits 40 r ++ from (now (s .entry)) (i * 8 + 40) ⌝ }
+{
+    let mut v: u64 = 0;
+    let mut j = i;
+    let mut k: u32 = 0;
+    while k < 5 {
+        v = behind(v, s[j]);
+        j += 1;
+        k += 1;
     }
+    v
+}
+
+// The n bits from a place on, where there are at least forty: five bytes at once.
+fn by_window(s: &[u8], at: usize, n: u32) -> u32
+    requires { ⌜ (n ≤ 32) × (at + 40 ≤ end (now s)) ⌝ }
+    ensures { λ r. ⌜ f n 0 0 .dec (from (now (s .entry)) at) ≡ got r (from (now (s .entry)) (at + n)) ⌝ }
+{
+    let d = 40 - (at % 8) as u32 - n;
+    ((window(s, at / 8) >> d) % pow2(n)) as u32
+}
+
+// The same up to the last bit, byte for byte.
+fn by_bytes(s: &[u8], at: usize, n: u32) -> u32
+    requires { ⌜ (n ≤ 32) × (n ≤ end (now s) - at) ⌝ }
+    ensures { λ r. ⌜ f n 0 0 .dec (from (now (s .entry)) at) ≡ got r (from (now (s .entry)) (at + n)) ⌝ }
+{
+    let mut left = n;
+    let mut at = at;
     let mut value: u64 = 0;
     while 0 < left {
         let room = 8 - (at % 8) as u32;
@@ -64,7 +97,26 @@ pub fn f(s: &[u8], c: Cursor, n: u32) -> GotNumber
         at += k as usize;
         left -= k;
     }
-    GotNumber::Value(value as u32, Cursor { at })
+    value as u32
+}
+
+// f(n); a width over 32, which is that of the value, counts as 32.
+pub fn f(s: &[u8], c: Cursor, n: u32) -> GotNumber
+    ensures { λ r. ⌜ Said form.number (f (min n 32) 0 0 .dec) (now (s .entry)) c r ⌝ }
+{
+    let width = smaller(n, 32);
+    let at = c.at;
+    let left = rest(s, at);
+    if left < width as usize {
+        return GotNumber::Refused(Refusal::Ends);
+    }
+    let next = Cursor {
+        at: at + width as usize,
+    };
+    if 40 <= left {
+        return GotNumber::Value(by_window(s, at, width), next);
+    }
+    GotNumber::Value(by_bytes(s, at, width), next)
 }
 
 // f(1) as a flag.

@@ -1,26 +1,13 @@
 use borrow.Author.Needs.{needs}
-use Rattle.reader.proofs.Fields.{Fielded, fielded-all, fielded-on, fielded-end, field-ends, byte-inside, place-fits, value-small, value-times, value-more}
+use Rattle.reader.proofs.Fields.{field-ends, field-fits, field-there}
 use Rattle.reader.proofs.f.Statement.{statement}
 use Rattle.reader.proofs.f.Tie as tie
-
-abbrev Inv-loop : tie.InvT-loop
-Inv-loop s n left₀ at₀ value₀ left at value = Fielded s at₀ left₀ value left at
-
-abbrev μ-loop : tie.MeasureT-loop
-μ-loop s n left₀ at₀ value₀ left at value = left
 
 pub f-spec : {M : Type 1} → statement M
 f-spec =
     tie.close
     (tie.spec
-    Inv-loop
-    μ-loop
     (λ c κs. search needs) (λ c κs. search needs) (λ c. search needs) (λ c. search field-ends)
-    (λ c. search fielded-all)
-    (λ c. search needs) (λ c. search needs) (λ c κs. search needs) (λ c κs. search needs) (λ c. record { fits = search value-times })
-    (λ c. search byte-inside)
-    (λ c. search needs) (λ c κs. search needs) (λ c. record { fits = search value-more })
-    (λ c. search needs) (λ c. record { fits = search place-fits })
-    (λ c. search needs) (λ c. search needs) (λ c. search fielded-on)
-    (λ c. record { fits = search value-small })
-    (λ c. search fielded-end))
+    (λ c. search needs) (λ c. record { fits = search field-fits })
+    (λ c κs. search needs) (λ c. search field-there)
+    (λ c κs. search needs) (λ c. search field-there))
