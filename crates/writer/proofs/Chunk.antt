@@ -1,6 +1,6 @@
 -- Several bits of one byte stored at once: the same as one at a time.
 use mathlib.Core.Path.{_≡_, refl, sym, ap, _∙_}
-use mathlib.Core.List.{List, _∷_, _++_}
+use mathlib.Core.List.{List, [], _∷_, _++_}
 use mathlib.Core.Logic.{⊎-elim}
 use Prim.Native.Nat.{ℕ, zero, suc, _+_, _-_, _*_, _/_, _%_, _^_, _≤_, _<_, min}
 use native.Mathlib.Omega.{arith}
@@ -8,11 +8,11 @@ use native.Mathlib.Nat.{add-suc, suc-add, add-zero, zero-add, add-mul, mul-assoc
 use lib.Arith.{digits-div, digits-lt}
 use lib.Pow.{pow-pos, pow-add, mod-mod-pow, mod-pow-add, shr-shr, shr-lt, pow-mono}
 use lib.ListN.{length, getD, set, length-set}
-use lib.Dec.{eqb, lit<}
+use lib.Dec.{eqb, ltb, lit<}
 use lib.Seq.{set-out, set-set, getD-set-same, set-getD}
 use borrow.Author.Tests.{lt-ltb}
-use mathlib.Core.Bool.{Bool}
-use Rattle.bits.specs.Bits.{Bits, bit, bitAt, toBits, put, setBit, withBit, limit}
+use mathlib.Core.Bool.{Bool, true, false, cond}
+use Rattle.bits.specs.Bits.{Bits, bit, bitAt, toBits, put, setBit, withBit, weight, limit}
 use Rattle.writer.specs.Blend.{blend}
 use Rattle.bits.proofs.Numbers.{length-toBits, bit-of-two}
 use Rattle.bits.proofs.Storing.{below-or, put-append, put-far, put-none}
@@ -107,6 +107,23 @@ put-turn xs at n v k d l r h =
     ∙ ap (put xs at) (bits-split k (n - k) v)
     ∙ put-append xs at (toBits k (v / 2 ^ (n - k))) (toBits (n - k) v)
     ∙ rw (c, length-toBits) refl
+
+-- nothing is stored past the end
+set-bit-past : (xs : List ℕ) (at : ℕ) (b : Bool) → length xs ≤ at / 8 → setBit xs at b ≡ xs
+unfolding setBit
+set-bit-past xs at b h = go (ltb at limit)
+  where
+    go : (t : Bool) → cond t (set xs (at / 8) (withBit (getD xs (at / 8) 0) (weight (at % 8)) (bit b))) xs ≡ xs
+    go true = set-out xs (at / 8) _ h
+    go false = refl
+
+put-past : (xs : List ℕ) (at : ℕ) (bs : Bits) → length xs ≤ at / 8 → put xs at bs ≡ xs
+unfolding put
+put-past xs at [] h = refl
+put-past xs at (b ∷ bs) h = ap (λ (l : List ℕ). put l (suc at) bs) (set-bit-past xs at b h) ∙ put-past xs (suc at) bs (omega arith)
+
+pub stores-past : (xs : List ℕ) (at n v : ℕ) → length xs ≤ at / 8 → xs ≡ put xs at (toBits n v)
+stores-past xs at n v h = sym (put-past xs at (toBits n v) h)
 
 -- Of n bits of v to be stored at a place, `left` bits are to go, from `place` on, over the bytes ys.
 pub record Stores (xs : List ℕ) (at n v : ℕ) (ys : List ℕ) (place left : ℕ) : Type 0 where

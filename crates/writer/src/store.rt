@@ -30,10 +30,13 @@ fn store(out: &mut [u8], i: usize, k: u32, d: u32, u: u64)
     }
 }
 
-// The n low bits of value are stored from the place `at` on, the top one first.
+// The n low bits of value are stored from the place `at` on, the top one first. (A walk that only counts goes over an empty slice: it leaves at once.)
 pub fn put(out: &mut [u8], at: usize, n: u32, value: u32)
     ensures { λ _. ⌜ now (out .exit) ≡ put (now (out .entry)) at (toBits n value) ⌝ }
 {
+    if out.len() <= at / 8 {
+        return;
+    }
     let mut place = at;
     let mut left = n;
     while 0 < left {

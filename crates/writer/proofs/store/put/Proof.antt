@@ -1,5 +1,5 @@
 use borrow.Author.Needs.{needs}
-use Rattle.writer.proofs.Chunk.{Stores, stores-all, stores-far, stores-end, stores-on}
+use Rattle.writer.proofs.Chunk.{Stores, stores-all, stores-past, stores-far, stores-end, stores-on}
 use Rattle.writer.proofs.store.put.Statement.{statement}
 use Rattle.writer.proofs.store.put.Tie as tie
 
@@ -15,6 +15,7 @@ put-spec =
     (tie.spec
     Inv-loop
     μ-loop
+    (λ c. search stores-past)
     (λ c. search stores-all)
     (λ c. search needs) (λ c. search stores-far)
     (λ c. search needs) (λ c. search needs) (λ c κs. search needs) (λ c. search needs) (λ c. search needs) (λ c κs. search needs)
