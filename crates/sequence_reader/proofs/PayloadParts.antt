@@ -1,7 +1,8 @@
 -- Where the payload begins, and the part that is handed back.
 use mathlib.Core.Path.{_≡_, refl, sym, ap, _∙_}
 use mathlib.Core.List.{List}
-use Prim.Native.Nat.{ℕ, _-_, _/_, _≤_}
+use mathlib.Core.Logic.{⊎-elim}
+use Prim.Native.Nat.{ℕ, _+_, _-_, _/_, _^_, _<_, _≤_}
 use native.Mathlib.Omega.{arith}
 use lib.ListN.{length, take, drop}
 use Rattle.bits.specs.Bits.{end}
@@ -13,6 +14,7 @@ use Rattle.bits.specs.declared.answer.Step.{Step}
 use Rattle.bits.specs.declared.answer.Step.the-variants as S
 use Rattle.bits.proofs.Places.{end-is, length-from}
 use Rattle.bits.proofs.Reading.{is, is-not}
+use Rattle.bits.proofs.Storing.{below-or}
 use Rattle.obu.specs.declared.header.ObuHeader.{ObuHeader}
 use Rattle.obu.specs.declared.read.GotHeader.{GotHeader}
 use Rattle.obu.specs.declared.read.GotHeader.the-variants as H
@@ -21,8 +23,10 @@ use Rattle.obu.specs.Header.{obu-header}
 use Rattle.obu.specs.Frame.{readSize}
 use Rattle.obu.specs.Demand3.{read}
 use Rattle.obu.proofs.Writing.{origin}
+use Rattle.obu.proofs.ObuReading.{read-long}
 use Rattle.sequence.specs.declared.record.SequenceHeaderObu.{SequenceHeaderObu}
 use Rattle.sequence.specs.Sequence.{sequence-header}
+use Rattle.sequence_reader.specs.declared.read.Part.{Part}
 use Rattle.sequence_reader.specs.declared.read.SequenceAnswer.{SequenceAnswer}
 use Rattle.sequence_reader.specs.declared.read.Outcome.{Outcome}
 use Rattle.sequence_reader.specs.declared.read.Outcome.the-variants.{Done, Refused}
@@ -60,18 +64,44 @@ module _ (xs : List ℕ) {a : SequenceAnswer} (e : a ≡ answerFor (read sequenc
   told : {o : Outcome} → a .outcome ≡ o → answerFor (read sequence-header xs) .outcome ≡ o
   told h = sym (ap (λ (x : SequenceAnswer). x .outcome) e) ∙ h
 
-  pub part-none : {z : Refusal} → a .outcome ≡ Refused z → take 0 (drop 0 xs) ≡ part (payloadPart xs) xs
+  pub part-none : {z : Refusal} → a .outcome ≡ Refused z → record { place = 0; size = 0 } ≡ payloadPart xs
   unfolding payloadPart answerFor
   part-none {z} h = go (read sequence-header xs) (told h)
     where
-      go : (g : Got SequenceHeaderObu) → answerFor g .outcome ≡ Refused z → take 0 (drop 0 xs) ≡ part (partFor g xs) xs
+      go : (g : Got SequenceHeaderObu) → answerFor g .outcome ≡ Refused z → record { place = 0; size = 0 } ≡ partFor g xs
       go (got v rest) q = absurd (let n : _≡_ {A = ℕ} 0 1 = cc in omega arith)
       go (stop r) q = refl
 
-  pub part-some : {n : ℕ} → a .outcome ≡ Done → n ≡ behind xs → take (length xs - n) (drop n xs) ≡ part (payloadPart xs) xs
+  pub part-some : {n : ℕ} → a .outcome ≡ Done → n ≡ behind xs → record { place = n; size = length xs - n } ≡ payloadPart xs
   unfolding payloadPart answerFor
   part-some {n} h k = rw k (go (read sequence-header xs) (told h))
     where
-      go : (g : Got SequenceHeaderObu) → answerFor g .outcome ≡ Done → take (length xs - behind xs) (drop (behind xs) xs) ≡ part (partFor g xs) xs
+      go : (g : Got SequenceHeaderObu) → answerFor g .outcome ≡ Done → record { place = behind xs; size = length xs - behind xs } ≡ partFor g xs
       go (got v rest) q = refl
       go (stop r) q = absurd (let n : _≡_ {A = ℕ} 0 1 = cc in omega arith)
+
+-- the part lies in the input, which has at most 65,536 bytes where there is one
+for-within : {A : Type 0} (g : Got A) (xs : List ℕ) → partFor g xs .place + partFor g xs .size ≤ length xs
+for-within (got a rest) xs = omega (arith, behind-within xs)
+for-within (stop r) xs = omega arith
+
+within : (xs : List ℕ) → payloadPart xs .place + payloadPart xs .size ≤ length xs
+unfolding payloadPart
+within xs = for-within (read sequence-header xs) xs
+
+pub few : (xs : List ℕ) → payloadPart xs .place + payloadPart xs .size ≤ 65536
+unfolding payloadPart
+few xs = ⊎-elim (λ (h : 65536 < length xs). rw (read-long sequence-header xs h) (omega arith)) (λ (h : length xs ≤ 65536). omega (arith, for-within (read sequence-header xs) xs)) (below-or 65536 (length xs))
+
+module _ (xs : List ℕ) {p : Part} (e : p ≡ payloadPart xs) where
+  pub part-ends : p .place + p .size ≤ length xs
+  part-ends = rw e (within xs)
+
+  pub part-fits : p .place + p .size < 2 ^ 64
+  part-fits = rw e (omega (arith, few xs))
+
+  pub part-is : {n : ℕ} → n ≡ p .place + p .size → take (n - p .place) (drop (p .place) xs) ≡ part (payloadPart xs) xs
+  part-is {n} h = rw (← e, size h)
+    where
+      size : n ≡ p .place + p .size → n - p .place ≡ p .size
+      size k = omega arith

@@ -8,6 +8,7 @@ use Rattle.obu.specs.Header.{obu-header}
 use Rattle.obu.specs.Frame.{readSize}
 use Rattle.obu.specs.Demand3.{read}
 use Rattle.sequence.specs.Sequence.{sequence-header}
+use Rattle.sequence_reader.specs.declared.read.Part.{Part}
 
 abbrev pub restOf : {A : Type 0} → Got A → Bits
 restOf (got a rest) = rest
@@ -16,10 +17,6 @@ restOf (stop r) = []
 -- the byte behind the size field, or behind the header if there is none
 unfoldable pub behind : List ℕ → ℕ
 behind xs = length xs - length (restOf (andThen (obu-header 1 .dec (from xs 0)) (λ h rest. readSize (h .«has_size_field») rest))) / 8
-
-pub record Part : Type 0 where
-  pub place : ℕ
-  pub size : ℕ
 
 -- all from there on where the reader accepts; where it refuses, the first zero bytes
 abbrev pub partFor : {A : Type 0} → Got A → List ℕ → Part

@@ -23,6 +23,12 @@ pub enum Outcome {
     Refused(Refusal),
 }
 
+// A part of the input: its first byte, and how many it has.
+pub struct Part {
+    pub place: usize,
+    pub size: usize,
+}
+
 // The record is that of zeros where the outcome is a refusal.
 pub struct SequenceAnswer {
     pub outcome: Outcome,
@@ -85,15 +91,28 @@ fn behind(input: &[u8]) -> usize
     input.len() - rest(input, c.at) / 8
 }
 
-// The payload of an OBU that is accepted, as a part of `input`; its first zero bytes where it is refused.
-pub fn payload(input: &[u8]) -> &[u8]
-    ensures { λ r. ⌜ now r ≡ part (payloadPart (now (input .entry))) (now (input .entry)) ⌝ }
+// Which part of `input` the payload is: all behind the size field where the OBU is accepted, and the first zero bytes where it is refused.
+pub fn payload_part(input: &[u8]) -> Part
+    ensures { λ r. ⌜ r ≡ payloadPart (now (input .entry)) ⌝ }
 {
     let a = read_sequence_header(input);
     let o = a.outcome;
     let Outcome::Done = o else {
-        return &input[0..0];
+        return Part { place: 0, size: 0 };
     };
-    let at = behind(input);
-    &input[at..]
+    let place = behind(input);
+    Part {
+        place,
+        size: input.len() - place,
+    }
+}
+
+// The payload, as a part of `input`.
+pub fn payload(input: &[u8]) -> &[u8]
+    ensures { λ r. ⌜ now r ≡ part (payloadPart (now (input .entry))) (now (input .entry)) ⌝ }
+{
+    let p = payload_part(input);
+    let at = p.place;
+    let end = at + p.size;
+    &input[at..end]
 }
