@@ -1,0 +1,93 @@
+-- What the calls leave: each way from a function's answer to the lent arrays.
+use mathlib.Core.Path.{_≡_, refl, sym, ap, _∙_}
+use mathlib.Core.List.{List, [], _∷_}
+use Prim.Native.Nat.{ℕ, _<_, _^_}
+use native.Mathlib.Omega.{arith}
+use lib.IntN.{ℤ}
+use Rattle.bits.specs.Walk.{Walk}
+use Rattle.bits.specs.declared.answer.Numbered.{Numbered}
+use Rattle.obu.specs.declared.answer.Answer as O
+use Rattle.obu.specs.declared.header.ObuHeader.{ObuHeader}
+use Rattle.obu.specs.Delimiter.{temporal-delimiter}
+use Rattle.obu.specs.Writer as obu
+use Rattle.parts.specs.declared.answer.Answer as P
+use Rattle.parts.specs.Written as part
+use Rattle.quantization.specs.declared.QuantizationParams.{QuantizationParams}
+use Rattle.quantization.specs.declared.QuantizationContext.{QuantizationContext}
+use Rattle.segmentation.specs.declared.SegmentationParams.{SegmentationParams}
+use Rattle.segmentation.specs.declared.SegmentationContext.{SegmentationContext}
+use Rattle.loop_filter.specs.declared.LoopFilterParams.{LoopFilterParams}
+use Rattle.loop_filter.specs.declared.LoopFilterContext.{LoopFilterContext}
+use Rattle.cdef.specs.declared.CdefParams.{CdefParams}
+use Rattle.cdef.specs.declared.CdefContext.{CdefContext}
+use Rattle.restoration.specs.declared.LoopRestorationParams.{LoopRestorationParams}
+use Rattle.restoration.specs.declared.LoopRestorationContext.{LoopRestorationContext}
+use Rattle.quantization.specs.Quantization as quantization
+use Rattle.segmentation.specs.Segmentation as segmentation
+use Rattle.loop_filter.specs.LoopFilter as loop-filter
+use Rattle.cdef.specs.Cdef as cdef
+use Rattle.restoration.specs.Restoration as restoration
+use Rattle.sequence.specs.declared.record.SequenceHeaderObu.{SequenceHeaderObu}
+use Rattle.sequence.specs.Sequence.{sequence-header}
+use Rattle.sequence_reader.specs.declared.read.Part.{Part}
+use Rattle.sequence_reader.specs.declared.read.SequenceAnswer.{SequenceAnswer}
+use Rattle.sequence_reader.specs.declared.read.Outcome.{Outcome}
+use Rattle.sequence_reader.specs.declared.read.Outcome.the-variants.{Done}
+use Rattle.sequence_reader.specs.Payload.{payloadPart}
+use Rattle.sequence_reader.proofs.PayloadParts.{few}
+use Rattle.boundary.specs.Sequence.{header-of, record-of, numbers-of}
+use Rattle.boundary.specs.Parts.{quantization-context, quantization-params, quantization-walk, segmentation-context, segmentation-params, segmentation-walk, loop-filter-context, loop-filter-params, loop-filter-walk, cdef-context, cdef-params, cdef-walk, lr-context, lr-params, lr-walk}
+use Rattle.boundary.specs.Calls.{answer-of, lent, wrote-obu, wrote-part, outcome-numbers, was-read, part-numbers}
+
+-- the numbers of a reader that accepts
+pub done-is : (o : Outcome) → o ≡ Done → record { number = 0; first = 0; second = 0 } ≡ outcome-numbers o
+done-is o e = rw e
+
+-- a writer's answer, told by its numbers
+obu-crosses : {w v : Walk} {xs ys l : List ℕ} {r : O.Answer} {n : Numbered} → w ≡ v → obu.Writes w xs r ys → n ≡ obu.answerNumbers r → l ≡ answer-of n → lent l ys ≡ wrote-obu v xs
+obu-crosses e (obu.writes a b) k h = rw (← e) (rw (h, k, a, b))
+
+part-crosses : {w v : Walk} {place : ℕ} {xs ys l : List ℕ} {r : P.Answer} {n : Numbered} → w ≡ v → part.Writes w place xs r ys → n ≡ part.answered r → l ≡ answer-of n → lent l ys ≡ wrote-part v place xs
+part-crosses e (part.writes a b) k h = rw (← e) (rw (h, k, a, b))
+
+module _ {out end l : List ℕ} {n : Numbered} (told : l ≡ answer-of n) where
+  module _ {r : O.Answer} (is : n ≡ obu.answerNumbers r) where
+    pub sequence-crosses : (xs : List ℕ) {h : SequenceHeaderObu} → h ≡ record-of xs → obu.Writes (sequence-header .enc h) out r end → lent l end ≡ wrote-obu (sequence-header .enc (record-of xs)) out
+    sequence-crosses xs e w = obu-crosses (ap (sequence-header .enc) e) w is told
+
+    pub delimiter-crosses : (xs : List ℕ) {h : ObuHeader} → h ≡ header-of xs → obu.Writes (temporal-delimiter h) out r end → lent l end ≡ wrote-obu (temporal-delimiter (header-of xs)) out
+    delimiter-crosses xs e w = obu-crosses (ap temporal-delimiter e) w is told
+
+  module _ {r : P.Answer} (is : n ≡ part.answered r) {place : ℕ} (xs : List ℤ) where
+    pub quantization-crosses : {p : QuantizationParams} {k : QuantizationContext} → p ≡ quantization-params xs → k ≡ quantization-context xs → part.Writes (quantization.quantization-params k .enc p) place out r end
+        → lent l end ≡ wrote-part (quantization-walk xs) place out
+    quantization-crosses e f w = part-crosses (λ i. quantization.quantization-params (f i) .enc (e i)) w is told
+
+    pub segmentation-crosses : {p : SegmentationParams} {k : SegmentationContext} → p ≡ segmentation-params xs → k ≡ segmentation-context xs → part.Writes (segmentation.segmentation-params k .enc p) place out r end
+        → lent l end ≡ wrote-part (segmentation-walk xs) place out
+    segmentation-crosses e f w = part-crosses (λ i. segmentation.segmentation-params (f i) .enc (e i)) w is told
+
+    pub loop-filter-crosses : {p : LoopFilterParams} {k : LoopFilterContext} → p ≡ loop-filter-params xs → k ≡ loop-filter-context xs → part.Writes (loop-filter.loop-filter-params k loop-filter.no-old .enc p) place out r end
+        → lent l end ≡ wrote-part (loop-filter-walk xs) place out
+    loop-filter-crosses e f w = part-crosses (λ i. loop-filter.loop-filter-params (f i) loop-filter.no-old .enc (e i)) w is told
+
+    pub cdef-crosses : {p : CdefParams} {k : CdefContext} → p ≡ cdef-params xs → k ≡ cdef-context xs → part.Writes (cdef.cdef-params k .enc p) place out r end → lent l end ≡ wrote-part (cdef-walk xs) place out
+    cdef-crosses e f w = part-crosses (λ i. cdef.cdef-params (f i) .enc (e i)) w is told
+
+    pub lr-crosses : {p : LoopRestorationParams} {k : LoopRestorationContext} → p ≡ lr-params xs → k ≡ lr-context xs → part.Writes (restoration.lr-params k .enc p) place out r end → lent l end ≡ wrote-part (lr-walk xs) place out
+    lr-crosses e f w = part-crosses (λ i. restoration.lr-params (f i) .enc (e i)) w is told
+
+-- the reader's answer and its record
+pub read-crosses : {a v : SequenceAnswer} {l ns : List ℕ} {n : Numbered} → a ≡ v → ns ≡ numbers-of (a .«record») → n ≡ outcome-numbers (a .outcome) → l ≡ answer-of n → lent l ns ≡ was-read v
+read-crosses e k m h = rw (← e) (rw (h, m, k))
+
+-- the payload's part
+module _ (xs : List ℕ) {p : Part} (e : p ≡ payloadPart xs) where
+  pub place-fits : p .place < 2 ^ 32
+  place-fits = rw e (omega (arith, few xs))
+
+  pub size-fits : p .size < 2 ^ 32
+  size-fits = rw e (omega (arith, few xs))
+
+  pub payload-crosses : p .place ∷ p .size ∷ [] ≡ part-numbers (payloadPart xs)
+  payload-crosses = ap part-numbers e

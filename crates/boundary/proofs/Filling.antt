@@ -1,0 +1,70 @@
+-- An array that is filled from its first place on.
+use mathlib.Core.Path.{_≡_, refl, sym, ap, _∙_}
+use mathlib.Core.List.{List, [], _∷_, _++_, append-assoc, append-nil}
+use Prim.Native.Nat.{ℕ, zero, suc, _+_, _*_, _<_, _≤_}
+use native.Mathlib.Omega.{arith}
+use native.Mathlib.Numerals.{add-one}
+use lib.ListN.{length, replicate, set, length-append, length-replicate}
+use lib.Seq.{sets, set-at, length-sets}
+use Rattle.boundary.specs.Numbers.{joined, each}
+
+-- an array of m places begins with `front`
+pub data Begun {A : Type 0} (front : List A) (m : ℕ) (list : List A) : Type 0 where
+  begun : (rest : List A) → length front + length rest ≡ m → list ≡ front ++ rest → Begun front m list
+
+no-rest : {A : Type 0} (rest : List A) → length rest ≡ 0 → rest ≡ []
+no-rest [] e = refl
+no-rest (x ∷ rest) e = absurd (omega arith)
+
+module _ {A : Type 0} {m : ℕ} where
+  pub begin : (list : List A) → length list ≡ m → Begun [] m list
+  begin list e = begun list (rw e (omega arith)) refl
+
+  pub finish : {front list : List A} → Begun front m list → m ≤ length front → list ≡ front
+  finish {front} (begun rest k e) h = e ∙ ap (λ (l : List A). front ++ l) (no-rest rest (omega arith)) ∙ append-nil front
+
+  one-more : {front list : List A} (a : A) {i : ℕ} → Begun front m list → length front ≡ i → i < m → Begun (front ++ a ∷ []) m (set list i a)
+  one-more {front} a {i} (begun [] k e) l h = absurd (omega arith)
+  one-more {front} a {i} (begun (x ∷ rest) k e) l h = begun rest (rw length-append (omega arith)) (rw e (set-at front x rest a i l ∙ sym (append-assoc front (a ∷ []) rest)))
+
+  -- the next places are stored
+  pub more : {front list : List A} (vs : List A) (i : ℕ) → Begun front m list → length front ≡ i → i + length vs ≤ m → Begun (front ++ vs) m (sets list i vs)
+  more {front} [] i g l h = rw append-nil g
+  more {front} {list} (v ∷ vs) i g l h =
+      let next : length (front ++ v ∷ []) ≡ suc i = rw length-append (omega arith) in
+      rw (← append-assoc front (v ∷ []) vs) (more vs (suc i) (one-more v g l (omega arith)) next (omega arith))
+
+-- a list that is stored in two parts
+pub sets-append : {A : Type 0} (l : List A) (i : ℕ) (vs ws : List A) → sets (sets l i vs) (i + length vs) ws ≡ sets l i (vs ++ ws)
+sets-append l i [] ws = let e : i + 0 ≡ i = omega arith in rw e
+sets-append l i (v ∷ vs) ws = let e : i + suc (length vs) ≡ suc i + length vs = omega arith in rw e (sets-append (set l i v) (suc i) vs ws)
+
+pub length-joined : {A : Type 0} (k n : ℕ) (f : ℕ → List A) → ((i : ℕ) → length (f i) ≡ k) → length (joined n f) ≡ k * n
+unfolding joined
+length-joined k zero f h = omega arith
+length-joined k (suc n) f h = rw (length-append, h n, length-joined k n f h) (omega arith)
+
+length-each : {A : Type 0} (f : ℕ → A) (i : ℕ) → length (each i f) ≡ i
+length-each f i = length-joined 1 i (λ j. f j ∷ []) (λ j. refl) ∙ omega arith
+
+-- a loop over the m places of an array: those below i hold f's values
+pub data Filled {A : Type 0} (f : ℕ → A) (m : ℕ) (list : List A) (i : ℕ) : Type 0 where
+  filled : Begun (each i f) m list → Filled f m list i
+
+pub filled-none : {A : Type 0} {f : ℕ → A} {m : ℕ} (z : A) → Filled f m (replicate m z) 0
+unfolding joined
+filled-none {m = m} z = filled (begin (replicate m z) (length-replicate m z))
+
+module _ {A : Type 0} {f : ℕ → A} {m : ℕ} {list : List A} {i : ℕ} where
+  pub filled-on : Filled f m list i → i < m → {a : A} → a ≡ f i → Filled f m (set list i a) (i + 1)
+  unfolding joined
+  filled-on (filled g) h {a} e = rw (e, add-one i) (filled (one-more (f i) g (length-each f i) h))
+
+  pub filled-has : Filled f m list i → i < m → i < length list
+  filled-has (filled (begun rest k e)) h = rw (e, length-append, length-each f i) (omega (arith, length-each f i))
+
+  pub filled-end : Filled f m list i → m ≤ i → list ≡ each m f
+  filled-end (filled (begun rest k e)) h =
+      let j : i ≡ m = omega (arith, length-each f i) in
+      let l : list ≡ each i f = finish {front = each i f} (begun rest k e) (omega (arith, length-each f i)) in
+      rw j at l

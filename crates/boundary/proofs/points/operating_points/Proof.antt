@@ -1,0 +1,21 @@
+-- The loop's invariant: the places below i are filled.
+use Prim.Native.Nat.{_+_, _-_}
+use borrow.Author.Needs.{needs}
+use Rattle.boundary.specs.Sequence.{point-of}
+use Rattle.boundary.proofs.Filling.{Filled, filled-none, filled-on, filled-has, filled-end}
+use Rattle.boundary.proofs.points.operating_points.Statement.{statement}
+use Rattle.boundary.proofs.points.operating_points.Tie as tie
+
+abbrev Inv-loop : tie.InvT-loop
+Inv-loop n points₀ i₀ points i = Filled (point-of n) 32 points i
+
+abbrev μ-loop : tie.MeasureT-loop
+μ-loop n points₀ i₀ points i = 32 - i
+
+pub operating-points-spec : {M : Type 1} → statement M
+operating-points-spec =
+    tie.close
+    (tie.spec
+    Inv-loop
+    μ-loop
+    (λ c κs. search needs) (λ c. filled-none _) (λ c κs. search needs) (λ c. search needs) (λ c. search filled-has) (λ c. search needs) (λ c. search needs) (λ c. search filled-on) (λ c. search filled-end))

@@ -1,0 +1,44 @@
+-- What each call leaves in the arrays and the buffer that it is lent.
+use mathlib.Core.List.{List, [], _∷_}
+use Prim.Native.Nat.{ℕ}
+use Rattle.bits.specs.Walk.{Walk}
+use Rattle.bits.specs.Answers.{numbered, plain}
+use Rattle.bits.specs.declared.answer.Numbered.{Numbered}
+use Rattle.obu.specs.Writer as obu
+use Rattle.parts.specs.Written as part
+use Rattle.sequence_reader.specs.declared.read.Part.{Part}
+use Rattle.sequence_reader.specs.declared.read.Outcome.{Outcome}
+use Rattle.sequence_reader.specs.declared.read.Outcome.the-variants.{Done, Refused}
+use Rattle.sequence_reader.specs.declared.read.SequenceAnswer.{SequenceAnswer}
+use Rattle.boundary.specs.Sequence.{numbers-of}
+
+-- an answer: its number and its two values
+abbrev pub answer-of : Numbered → List ℕ
+answer-of n = n .number ∷ n .first ∷ n .second ∷ []
+
+-- what a call leaves: its answer's three numbers, and the buffer or the record's numbers
+pub record Lent : Type 0 where
+  pub answer : List ℕ
+  pub other : List ℕ
+
+abbrev pub lent : List ℕ → List ℕ → Lent
+lent a b = record { answer = a; other = b }
+
+-- a writer of an OBU, and of a part
+abbrev pub wrote-obu : Walk → List ℕ → Lent
+wrote-obu w xs = lent (answer-of (obu.answerNumbers (obu.written w xs .answer))) (obu.written w xs .bytes)
+
+abbrev pub wrote-part : Walk → ℕ → List ℕ → Lent
+wrote-part w place xs = lent (answer-of (part.answered (part.written w place xs .answer))) (part.written w place xs .bytes)
+
+-- the reader: number 0 where it accepts; where it refuses, the record is that of zeros
+abbrev pub outcome-numbers : Outcome → Numbered
+outcome-numbers Done = plain 0
+outcome-numbers (Refused r) = numbered r
+
+abbrev pub was-read : SequenceAnswer → Lent
+was-read a = lent (answer-of (outcome-numbers (a .outcome))) (numbers-of (a .«record»))
+
+-- the first byte of a part, and how many it has
+abbrev pub part-numbers : Part → List ℕ
+part-numbers p = p .place ∷ p .size ∷ []

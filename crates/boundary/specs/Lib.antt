@@ -1,0 +1,4 @@
+pub mod Numbers
+pub mod Sequence
+pub mod Parts
+pub mod Calls
