@@ -1,0 +1,72 @@
+// Lists sequence headers: each line of standard input is an OBU in hex. A line that begins with `#` is copied; an empty one is passed over.
+use lines::input::Line;
+use lines::input::Rest;
+use lines::input::next_line;
+use lines::parse::Bytes;
+use lines::parse::hex;
+use listing::list::list;
+use listing::out::text;
+
+fn copied(line: &[u8]) {
+    text(line);
+    text(b"\n");
+}
+
+fn header(line: &[u8], bytes: &mut [u8]) {
+    let b = hex(line, bytes);
+    match b {
+        Bytes::Count(n) => {
+            if n <= bytes.len() {
+                list(&bytes[0..n]);
+            }
+        }
+        Bytes::Bad => text(b"bad\n"),
+    }
+    text(b"\n");
+}
+
+fn one_line(line: &[u8], bytes: &mut [u8]) {
+    if line.len() == 0 {
+        return;
+    }
+    if line[0] == b'#' {
+        copied(line);
+    } else {
+        header(line, bytes);
+    }
+}
+
+// The first n bytes of the slice are a line.
+fn whole(line: &[u8], n: usize, bytes: &mut [u8]) {
+    if n <= line.len() {
+        one_line(&line[0..n], bytes);
+    }
+}
+
+// A line that is too long for the slice is bad.
+fn all(chunk: &mut [u8], line: &mut [u8], bytes: &mut [u8]) {
+    let mut rest = Rest { at: 0, end: 0 };
+    let mut turns = u64::MAX;
+    while 0 < turns {
+        turns -= 1;
+        let l = next_line(chunk, rest, line);
+        match l {
+            Line::Whole(n, next) => {
+                rest = next;
+                whole(line, n, bytes);
+            }
+            Line::Long(next) => {
+                rest = next;
+                text(b"bad\n\n");
+            }
+            Line::End => return,
+        }
+    }
+}
+
+fn main() {
+    let mut chunk = io::large_buffer();
+    let mut line = [0u8; 131072];
+    let mut bytes = io::large_buffer();
+    all(&mut chunk, &mut line, &mut bytes);
+}

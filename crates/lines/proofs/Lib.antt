@@ -1,0 +1,4 @@
+pub mod Hexes
+pub mod Puts
+pub mod RoundTrip
+pub mod Texts

@@ -1,0 +1,4 @@
+// Lines of text: out of standard input, numbers and bytes out of a line, and an answer into a lent slice.
+pub mod answer;
+pub mod input;
+pub mod parse;

@@ -1,0 +1,126 @@
+// The operating points of 5.5.1, and 5.5.5 operating_parameters_info.
+use crate::row::Index;
+use crate::row::f;
+use crate::row::f_at;
+use crate::row::flag;
+use crate::row::inferred;
+use crate::row::inferred_at;
+use bits::answer::Cursor;
+use sequence::record::OperatingPoint;
+
+fn operating_parameters_info(s: &[u8], c: Cursor, n: u32, i: usize) -> Cursor {
+    let c = f_at(s, c, n, b"decoder_buffer_delay", Index::At(i));
+    let c = f_at(s, c, n, b"encoder_buffer_delay", Index::At(i));
+    f_at(s, c, 1, b"low_delay_mode_flag", Index::At(i))
+}
+
+fn seq_tier(s: &[u8], c: Cursor, seq_level_idx: u32, i: usize) -> Cursor {
+    if 7 < seq_level_idx {
+        return f_at(s, c, 1, b"seq_tier", Index::At(i));
+    }
+    inferred_at(b"seq_tier", Index::At(i), 0);
+    c
+}
+
+fn point_model(s: &[u8], c: Cursor, has_model: bool, present: bool, n: u32, i: usize) -> Cursor {
+    if !has_model {
+        inferred_at(b"decoder_model_present_for_this_op", Index::At(i), 0);
+        return c;
+    }
+    let c = f_at(s, c, 1, b"decoder_model_present_for_this_op", Index::At(i));
+    if present {
+        return operating_parameters_info(s, c, n, i);
+    }
+    c
+}
+
+fn point_delay(s: &[u8], c: Cursor, has_delay: bool, present: bool, i: usize) -> Cursor {
+    if !has_delay {
+        return c;
+    }
+    let c = f_at(
+        s,
+        c,
+        1,
+        b"initial_display_delay_present_for_this_op",
+        Index::At(i),
+    );
+    if present {
+        return f_at(s, c, 4, b"initial_display_delay_minus_1", Index::At(i));
+    }
+    c
+}
+
+fn operating_point(
+    s: &[u8],
+    c: Cursor,
+    p: OperatingPoint,
+    has_model: bool,
+    n: u32,
+    has_delay: bool,
+    i: usize,
+) -> Cursor {
+    let c = f_at(s, c, 12, b"operating_point_idc", Index::At(i));
+    let c = f_at(s, c, 5, b"seq_level_idx", Index::At(i));
+    let c = seq_tier(s, c, p.seq_level_idx, i);
+    let c = point_model(s, c, has_model, p.decoder_model_present_for_this_op, n, i);
+    point_delay(
+        s,
+        c,
+        has_delay,
+        p.initial_display_delay_present_for_this_op,
+        i,
+    )
+}
+
+// The points up to the one with the number `last`.
+fn operating_points(
+    s: &[u8],
+    c: Cursor,
+    list: [OperatingPoint; 32],
+    last: u32,
+    has_model: bool,
+    n: u32,
+    has_delay: bool,
+) -> Cursor {
+    let mut at = c;
+    for i in 0..32 {
+        if i <= last as usize {
+            at = operating_point(s, at, list[i], has_model, n, has_delay, i);
+        }
+    }
+    at
+}
+
+// Of the full header.
+pub fn points(
+    s: &[u8],
+    c: Cursor,
+    list: [OperatingPoint; 32],
+    last: u32,
+    has_model: bool,
+    n: u32,
+    has_delay: bool,
+) -> Cursor {
+    let c = flag(s, c, b"initial_display_delay_present_flag");
+    let c = f(s, c, 5, b"operating_points_cnt_minus_1");
+    operating_points(s, c, list, last, has_model, n, has_delay)
+}
+
+// With the reduced header only the level of one point is coded.
+pub fn reduced_points(s: &[u8], c: Cursor) -> Cursor {
+    inferred(b"timing_info_present_flag", 0);
+    inferred(b"decoder_model_info_present_flag", 0);
+    inferred(b"initial_display_delay_present_flag", 0);
+    inferred(b"operating_points_cnt_minus_1", 0);
+    inferred_at(b"operating_point_idc", Index::At(0), 0);
+    let c = f_at(s, c, 5, b"seq_level_idx", Index::At(0));
+    inferred_at(b"seq_tier", Index::At(0), 0);
+    inferred_at(b"decoder_model_present_for_this_op", Index::At(0), 0);
+    inferred_at(
+        b"initial_display_delay_present_for_this_op",
+        Index::At(0),
+        0,
+    );
+    c
+}

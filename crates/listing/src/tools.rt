@@ -1,0 +1,84 @@
+// The coding tools of 5.5.1.
+use crate::row::f;
+use crate::row::f_if;
+use crate::row::flag;
+use crate::row::flag_if;
+use crate::row::inferred;
+use bits::answer::Cursor;
+use sequence::record::SequenceHeaderObu;
+
+pub fn block_tools(s: &[u8], c: Cursor) -> Cursor {
+    let c = flag(s, c, b"use_128x128_superblock");
+    let c = flag(s, c, b"enable_filter_intra");
+    flag(s, c, b"enable_intra_edge_filter")
+}
+
+fn screen_content_tools(s: &[u8], c: Cursor, choose: bool) -> Cursor {
+    let c = flag(s, c, b"seq_choose_screen_content_tools");
+    f_if(s, c, !choose, 1, b"seq_force_screen_content_tools", 2)
+}
+
+fn integer_mv(s: &[u8], c: Cursor, screen: u32, choose: bool) -> Cursor {
+    if screen == 0 {
+        inferred(b"seq_force_integer_mv", 2);
+        return c;
+    }
+    let c = flag(s, c, b"seq_choose_integer_mv");
+    f_if(s, c, !choose, 1, b"seq_force_integer_mv", 2)
+}
+
+fn hint_bits(s: &[u8], c: Cursor, order_hint: bool, order_hint_bits: u32) -> Cursor {
+    let c = if order_hint {
+        f(s, c, 3, b"order_hint_bits_minus_1")
+    } else {
+        c
+    };
+    inferred(b"OrderHintBits", order_hint_bits as u64);
+    c
+}
+
+fn full_tools(s: &[u8], c: Cursor, order_hint: bool) -> Cursor {
+    let c = flag(s, c, b"enable_interintra_compound");
+    let c = flag(s, c, b"enable_masked_compound");
+    let c = flag(s, c, b"enable_warped_motion");
+    let c = flag(s, c, b"enable_dual_filter");
+    let c = flag(s, c, b"enable_order_hint");
+    let c = flag_if(s, c, order_hint, b"enable_jnt_comp", false);
+    flag_if(s, c, order_hint, b"enable_ref_frame_mvs", false)
+}
+
+// With the reduced header none is coded.
+fn reduced_tools() {
+    inferred(b"enable_interintra_compound", 0);
+    inferred(b"enable_masked_compound", 0);
+    inferred(b"enable_warped_motion", 0);
+    inferred(b"enable_dual_filter", 0);
+    inferred(b"enable_order_hint", 0);
+    inferred(b"enable_jnt_comp", 0);
+    inferred(b"enable_ref_frame_mvs", 0);
+    inferred(b"seq_force_screen_content_tools", 2);
+    inferred(b"seq_force_integer_mv", 2);
+    inferred(b"OrderHintBits", 0);
+}
+
+pub fn inter_tools(s: &[u8], c: Cursor, r: SequenceHeaderObu) -> Cursor {
+    if r.reduced_still_picture_header {
+        reduced_tools();
+        return c;
+    }
+    let c = full_tools(s, c, r.enable_order_hint);
+    let c = screen_content_tools(s, c, r.seq_choose_screen_content_tools);
+    let c = integer_mv(
+        s,
+        c,
+        r.seq_force_screen_content_tools,
+        r.seq_choose_integer_mv,
+    );
+    hint_bits(s, c, r.enable_order_hint, r.order_hint_bits)
+}
+
+pub fn filter_tools(s: &[u8], c: Cursor) -> Cursor {
+    let c = flag(s, c, b"enable_superres");
+    let c = flag(s, c, b"enable_cdef");
+    flag(s, c, b"enable_restoration")
+}
