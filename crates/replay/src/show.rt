@@ -1,0 +1,71 @@
+// Answer lines.
+use lines::answer::byte;
+use lines::answer::decimal;
+use lines::answer::text;
+ghost use Prim.Native.Nat.{_≤_};
+
+pub fn bad(out: &mut [u8]) -> usize {
+    text(out, 0, b"bad\n")
+}
+
+fn number(out: &mut [u8], at: usize, n: u32) -> usize {
+    decimal(out, at, n as u64)
+}
+
+// A space and a number.
+fn more(out: &mut [u8], at: usize, n: u32) -> usize {
+    let at = byte(out, at, b' ');
+    number(out, at, n)
+}
+
+// The numbers of an answer: 0 and the count, or a refusal and its two values.
+fn numbers(out: &mut [u8], answer: &[u32; 3]) -> usize {
+    let at = number(out, 0, answer[0]);
+    let at = more(out, at, answer[1]);
+    if answer[0] == 0 {
+        return at;
+    }
+    more(out, at, answer[2])
+}
+
+// A writer's answer, and the whole buffer.
+pub fn written(out: &mut [u8], answer: &[u32; 3], buffer: &[u8]) -> usize {
+    let at = numbers(out, answer);
+    if buffer.len() == 0 {
+        return byte(out, at, b'\n');
+    }
+    let at = byte(out, at, b' ');
+    let at = lines::answer::hex(out, at, buffer);
+    byte(out, at, b'\n')
+}
+
+fn row(out: &mut [u8], at: usize, record: &[u32; 347], from: usize, to: usize) -> usize
+    requires { ⌜ to ≤ 347 ⌝ }
+{
+    let mut end = at;
+    let mut i = from;
+    while i < to {
+        end = more(out, end, record[i]);
+        i += 1;
+    }
+    end
+}
+
+// A record that was read, as the numbers of `seq` with 32 operating points; or the refusal.
+pub fn record(out: &mut [u8], answer: &[u32; 3], record: &[u32; 347]) -> usize {
+    if answer[0] != 0 {
+        let at = numbers(out, answer);
+        return byte(out, at, b'\n');
+    }
+    let at = byte(out, 0, b'0');
+    let at = row(out, at, record, 0, 20);
+    let at = more(out, at, 32);
+    let at = row(out, at, record, 20, 347);
+    byte(out, at, b'\n')
+}
+
+pub fn part(out: &mut [u8], answer: &[u32; 2]) -> usize {
+    let at = number(out, 0, answer[0]);
+    let at = more(out, at, answer[1]);
+    byte(out, at, b'\n')
+}

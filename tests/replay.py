@@ -1,0 +1,179 @@
+#!/usr/bin/env python3
+"""Writes case lines for the program `replay`, and the answers that it must give:
+    tests/replay.py crates/replay
+The answers stand here, from document 01: its worked table, its rules in words, and, where a line is not of the table, the bits that the
+standard's syntax tables give, written out. Further lines come with their answers from tests/vectors and tests/streams. Nothing is taken from the program.
+"""
+import pathlib
+import sys
+
+TESTS = pathlib.Path(__file__).parent
+LINES = []
+ANSWERS = []
+
+
+def case(line, answer=None):
+    LINES.append(line if isinstance(line, bytes) else line.encode())
+    if answer is not None:
+        ANSWERS.append(answer)
+
+
+def stored(path):
+    """Lines, and their answers in a file beside them."""
+    LINES.extend(path.with_suffix(".txt").read_bytes().split(b"\n"))
+    ANSWERS.extend(path.with_suffix(".answers").read_text().splitlines())
+
+
+def real(path):
+    """Lines of real streams, each followed by its answer; comments are kept."""
+    left = iter(path.read_text().splitlines())
+    for line in left:
+        case(line, next(left) if line and not line.startswith("#") else None)
+
+
+def zeros(data, size=420):
+    return data + "00" * (size - len(data) // 2)
+
+
+def packed(bits, size=420):
+    """The bits at the start of a buffer of zeros."""
+    bits = bits.replace(" ", "")
+    bits += "0" * (-len(bits) % 8)
+    return zeros("".join("%02X" % int(bits[i : i + 8], 2) for i in range(0, len(bits), 8)), size)
+
+
+def obu(payload):
+    """A sequence header OBU with a size field: its bits, a one bit, zeros to a byte end."""
+    payload = payload.replace(" ", "") + "1"
+    payload += "0" * (-len(payload) % 8)
+    size = len(payload) // 8
+    data = packed("00001010" + format(size, "08b") + payload)
+    return "0 %d %s" % (size + 2, data)
+
+
+HEADER = "1 0 1 0 0 "
+TIMING = " 0 0 0 0 "
+MODEL = " 0 0 0 0 0 "
+COLOR = " 0 0 %d 0 2 2 2 0 1 1 0 0 "
+
+
+def still(width_bits, width, level=0, points="1 0 %d 0 0 0 0 0 0 0"):
+    """Case 2: reduced still, 1 by 1, mono, other coded fields 0, inferred ones as inferred."""
+    return (
+        HEADER + "0 1 1 0" + TIMING + MODEL + "0 0 " + points % level + " %d 0 %d 0 " % (width_bits, width)
+        + "0 0 0  0 0 0  0 0 0 0 0 0 0  0 2 0 2  0 0  0 0 0" + COLOR % 1 + "0"
+    )
+
+
+def hd(timing_flag="0", timing=TIMING):
+    """Case 6: 1920 by 1080."""
+    return (
+        HEADER + "0 0 0 " + timing_flag + timing + MODEL + "0 0 1 0 8 0 0 0 0 0 0 0 10 10 1919 1079 "
+        + "0 0 0  1 1 1  1 1 1 1 1 1 1  1 2 1 2  6 7  0 1 1" + COLOR % 0 + "0"
+    )
+
+
+# The bits of case 6 behind timing_info_present_flag (5.5.1): no initial delay, one point of level 8 and tier 0, the sizes, no frame ids, the tools, the
+# colour of 5.5.2 (8 bits, no mono, no description, range 0, position 0, no separate deltas), no film grain.
+HD_REST = "0 00000 000000000000 01000 0 1010 1010 11101111111 10000110111 0 111 1111 111 1 1 110 0 1 1 0 0 0 0 00 0 0"
+
+
+def quant(base, delta):
+    return "quant 1 0 %s %s 0 0 0 0 0 0 0 0 0" % (base, delta)
+
+
+SEG = "seg 7 0 0 0 0" + " 0" * 128
+LOSSLESS = "lf 1 0 3 0 0 0 0 0 0 0 1 0 0 0 0 -1 -1 -1 0 0"
+CDEF = "cdef 0 0 1 1 0 3" + " 1" + " 0" * 7 + " 4" + " 0" * 7 + " 0" * 16
+LR = "lr 0 0 1 1 0 1 1 2 0 0 1 0 %d 0"
+
+# Document 01's worked table.
+case("td 2 0 1 0 0", "0 2 " + zeros("1200"))
+case("td 2 0 0 0 0", "0 1 " + zeros("10"))
+case("seq " + still(0, 0), "0 6 " + zeros("0A0418000011"))
+case("seq " + still(0, 0) + " ;buf=0000000000", "3 6 0 0000000000")
+READ = "0 " + " ".join(still(0, 0, 0, "32 %d" + " 0" * 287).split())
+case("read 0A840018000011", READ)
+case("read 0A051800001100", READ)
+case("read 0A0418000010", "7 0 0")
+case("read 0A0518000011", "6 0 0")
+case("read 0A", "4 0 0")
+case("seq " + hd(), "0 13 " + zeros("0A0B00000042ABBFC377FFE601"))
+case("seq " + still(7, 255), obu("000 1 1 00000 0111 0000 11111111 0 000 000 0 1 0 0 0"))
+case("seq " + still(7, 256), "1 21 0 " + zeros(""))
+case(quant(0, -1), "0 17 " + packed("00000000 1 1111111 0"))
+case(quant(0, -64), "0 17 " + packed("00000000 1 1000000 0"))
+case(quant(0, 63), "0 17 " + packed("00000000 1 0111111 0"))
+case(quant(0, 64), "2 52 0 " + zeros(""))
+case(quant(0, -65), "2 52 0 " + zeros(""))
+for ticks, code in (0, "1"), (1, "010"), (2, "011"):
+    timing = "000 0 0 1" + " " + format(1, "032b") + format(60, "032b") + "1" + code + " 0 "
+    case("seq " + hd("1", " 1 60 1 %d " % ticks), obu(timing + HD_REST))
+case(quant(100, -1), "0 17 " + packed("01100100 1 1111111 0"))
+case(CDEF, "0 10 " + packed("00 00 0001 11"))
+for shift, bits in (0, "0"), (1, "10"), (2, "11"):
+    case(LR % shift, "0 %d " % (2 + len(bits)) + packed("10" + bits))
+
+# Every other word; settings; bits and bytes that are not written are kept.
+case(SEG, "0 1 " + packed("0"))
+case(LOSSLESS, "0 0 " + zeros(""))
+case("payload 0A0418000011", "2 4")
+case("payload 0A840018000011", "3 4")
+case("payload 0A", "0 0")
+case("payload", "0 0")
+case("read", "4 0 0")
+case("td 1 0 1 0 0", "1 1 0 " + zeros(""))
+case("td 2 0 1 0 0 ; buf=ffFFffFF", "0 2 1200FFFF")
+case("td 2 0 1 0 0;buf=FF", "3 2 0 FF")
+case("td 2 0 1 0 0;buf=", "3 2 0")
+case("td 2 0 1 0 0 ;", "0 2 " + zeros("1200"))
+case("  td  002 0 -7 -0 0  ", "0 2 " + zeros("1200"))
+case("td 2 0 999999999999999999 0 0;buf=0000", "0 2 1200")
+case(quant(100, -1) + " ;place=3 buf=FFFFFFFF", "0 20 " + packed("111 01100100 1 1111111 0 111111111111", 4))
+case(quant(100, -1) + ";buf=FFFF place=0", "3 3 0 FFFF")
+case(quant(100, -1) + " ;place=4294967295 buf=00", "3 536870914 0 00")
+case(quant(4294967295, 0) + " ;buf=00", "2 51 0 00")
+case(LR.replace("2 0 0 1", "4294967295 0 0 1") % 0 + ";buf=00", "2 76 0 00")
+
+# What the crate, the model of document 01 and real streams say.
+for name in "oracle", "read", "bad":
+    stored(TESTS / "vectors" / name)
+for name in "seq.txt", "parts.txt":
+    real(TESTS / "streams" / name)
+
+# No answer.
+case("")
+case("   ")
+case("# td 2 0 1 0 0")
+case(b"  # \x00 \r \xff")
+
+# Malformed, and each next line is answered.
+GOOD = ("td 2 0 0 0 0;buf=77", "0 1 10")
+MALFORMED = [
+    ["nothing", "TD 2 0 1 0 0", "t", "td2 0 1 0 0"],
+    ["td", "td 2 0 1 0", "td 2 0 1 0 0 0", "td;", "seq " + still(0, 0) + " 0", "seq " + still(0, 0)[:-2]],
+    ["td 4294967296 0 1 0 0", "td -1 0 1 0 0", "td 2 1000000000000000000 1 0 0", quant(0, 128), quant(0, -129), SEG[:-1] + "32768"],
+    ["seq " + still(256, 0), "seq " + still(0, 0, 0, "33 %d" + " 0" * 296), SEG[:-1] + "-32769", quant(0, 0) + " ;place=4294967296"],
+    ["td 2 0 x 0 0", "td +2 0 1 0 0", "td - 0 1 0 0", "td 2 0 --1 0 0", "td 2,0,1,0,0", "td 2 0 1 0 0\t"],
+    ["td 2 0 1 0 0;buf=ABC", "td 2 0 1 0 0;buf=0G", "td 2 0 1 0 0;buf", "td 2 0 1 0 0;len=1", "td 2 0 1 0 0 buf=00"],
+    ["td 2 0 1 0 0;;buf=00", "td 2 0 1 0 0;buf=00 buf=00", "td 2 0 1 0 0;place=0", quant(0, 0) + ";place=0 buf=00 place=0", quant(0, 0) + ";place=-1"],
+    ["read 0", "read 0A 04", "read 0A;buf=00", "read ;", "payload xx", "payload 0A;place=0"],
+    ["td 2 0 1 0 0\r", "\r", b"td 2 0 1\x00 0 0", b"\x00", b"td 2 0 1 0 0;buf=\x00\x00", b"\xff\xfe"],
+]
+for lines in MALFORMED:
+    for line in lines:
+        case(line, "bad")
+    case(*GOOD)
+
+# A line of 200,000 characters, whose buffer is over 65,536 bytes; a line of 200,001.
+LONG = "td 2 0 1 0 0 ;buf=" + "A5" * 65537
+case(LONG.ljust(200000), "8 0 0 " + "A5" * 65537)
+case("td 2 0 1 0 0".ljust(200001), "bad")
+case(*GOOD)
+# The last line has no line end.
+case("td 2 0 1 0 0;buf=5555", "0 2 1200")
+
+with open(sys.argv[1] + "/stdin", "wb") as f:
+    f.write(b"\n".join(LINES))
+with open(sys.argv[1] + "/stdout", "w") as f:
+    f.write("".join(a + "\n" for a in ANSWERS))
