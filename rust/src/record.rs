@@ -1,0 +1,390 @@
+//! The records, with the names of the standard. `f(n)`, `su(n)` and `uvlc` are the codes of section 4.10, and a condition says when a field is coded.
+//! A field that is not coded has to hold the value said here for that case; if none is said, it is not looked at.
+use crate::numbers::{record, Numbers};
+
+/// `obu_type` of a sequence header.
+pub const OBU_SEQUENCE_HEADER: u32 = 1;
+
+/// `obu_type` of a temporal delimiter.
+pub const OBU_TEMPORAL_DELIMITER: u32 = 2;
+
+/// `seq_force_screen_content_tools` where the frame header chooses.
+pub const SELECT_SCREEN_CONTENT_TOOLS: u32 = 2;
+
+/// `seq_force_integer_mv` where the frame header chooses.
+pub const SELECT_INTEGER_MV: u32 = 2;
+
+/// `primary_ref_frame` where there is none.
+pub const PRIMARY_REF_NONE: u32 = 7;
+
+record! {
+    /// `obu_header` (5.3.2).
+    #[derive(Clone, Copy, Debug, Default, PartialEq, Eq, Hash)]
+    pub struct ObuHeader {
+        /// f(4): what the OBU is. Each writer takes its own type only.
+        pub obu_type: u32,
+        /// f(1): whether the two ids are coded.
+        pub extension_flag: bool,
+        /// f(1): whether the OBU's size is coded.
+        pub has_size_field: bool,
+        /// f(3), with the extension.
+        pub temporal_id: u32,
+        /// f(2), with the extension.
+        pub spatial_id: u32,
+    }
+}
+
+record! {
+    /// `timing_info` (5.5.3).
+    #[derive(Clone, Copy, Debug, Default, PartialEq, Eq, Hash)]
+    pub struct TimingInfo {
+        /// f(32)
+        pub num_units_in_display_tick: u32,
+        /// f(32)
+        pub time_scale: u32,
+        /// f(1)
+        pub equal_picture_interval: bool,
+        /// uvlc, with `equal_picture_interval`; 2^32 - 1 has no code.
+        pub num_ticks_per_picture_minus_1: u32,
+    }
+}
+
+record! {
+    /// `decoder_model_info` (5.5.4).
+    #[derive(Clone, Copy, Debug, Default, PartialEq, Eq, Hash)]
+    pub struct DecoderModelInfo {
+        /// f(5): the bits, less one, of the buffer delays of each operating point.
+        pub buffer_delay_length_minus_1: u8,
+        /// f(32)
+        pub num_units_in_decoding_tick: u32,
+        /// f(5)
+        pub buffer_removal_time_length_minus_1: u32,
+        /// f(5)
+        pub frame_presentation_time_length_minus_1: u32,
+    }
+}
+
+record! {
+    /// One operating point of the sequence header (5.5.1), with its `operating_parameters_info` (5.5.5).
+    #[derive(Clone, Copy, Debug, Default, PartialEq, Eq, Hash)]
+    pub struct OperatingPoint {
+        /// `operating_point_idc`, f(12); 0 in a reduced header.
+        pub idc: u32,
+        /// f(5)
+        pub seq_level_idx: u32,
+        /// f(1), at levels over 7; else 0. Not looked at in a reduced header.
+        pub seq_tier: u32,
+        /// f(1), with `decoder_model_info_present_flag`; else 0.
+        pub decoder_model_present_for_this_op: bool,
+        /// f(`buffer_delay_length_minus_1` + 1), with `decoder_model_present_for_this_op`.
+        pub decoder_buffer_delay: u32,
+        /// f(`buffer_delay_length_minus_1` + 1), with `decoder_model_present_for_this_op`.
+        pub encoder_buffer_delay: u32,
+        /// f(1), with `decoder_model_present_for_this_op`.
+        pub low_delay_mode_flag: bool,
+        /// f(1), with `initial_display_delay_present_flag`; 0 in a reduced header.
+        pub initial_display_delay_present_for_this_op: bool,
+        /// f(4), with `initial_display_delay_present_for_this_op`.
+        pub initial_display_delay_minus_1: u32,
+    }
+}
+
+record! {
+    /// `color_config` (5.5.2).
+    #[derive(Clone, Copy, Debug, Default, PartialEq, Eq, Hash)]
+    pub struct ColorConfig {
+        /// f(1)
+        pub high_bitdepth: bool,
+        /// f(1), in profile 2 with `high_bitdepth`; else 0.
+        pub twelve_bit: bool,
+        /// f(1), but for profile 1, where it is 0.
+        pub mono_chrome: bool,
+        /// f(1)
+        pub color_description_present_flag: bool,
+        /// f(8), with a description; else 2.
+        pub color_primaries: u32,
+        /// f(8), with a description; else 2.
+        pub transfer_characteristics: u32,
+        /// f(8), with a description; else 2.
+        pub matrix_coefficients: u32,
+        /// f(1); 1 with three planes of sRGB.
+        pub color_range: bool,
+        /// 1 if `mono_chrome`, 0 for sRGB; else 1 in profile 0, 0 in profile 1, and in profile 2 f(1) at twelve bits, 1 below.
+        pub subsampling_x: bool,
+        /// 1 if `mono_chrome`, 0 for sRGB; else 1 in profile 0, 0 in profile 1, and in profile 2 f(1) at twelve bits with `subsampling_x`, 0 without.
+        pub subsampling_y: bool,
+        /// f(2), with three planes of 4:2:0 and not sRGB; else 0.
+        pub chroma_sample_position: u32,
+        /// f(1), with three planes; else 0.
+        pub separate_uv_delta_q: bool,
+    }
+}
+
+impl ColorConfig {
+    /// All 0, but for a colour description that is not there: 2, 2, 2.
+    pub fn unspecified() -> ColorConfig {
+        ColorConfig {
+            color_primaries: 2,
+            transfer_characteristics: 2,
+            matrix_coefficients: 2,
+            ..ColorConfig::default()
+        }
+    }
+}
+
+record! {
+    /// A sequence header OBU (5.5.1).
+    #[derive(Clone, Debug, Default, PartialEq, Eq, Hash)]
+    pub struct SequenceHeaderObu {
+        /// Its type is [`OBU_SEQUENCE_HEADER`].
+        pub obu_header: ObuHeader,
+        /// f(3): 0 to 2.
+        pub seq_profile: u32,
+        /// f(1)
+        pub still_picture: bool,
+        /// f(1): most fields below are then not coded.
+        pub reduced_still_picture_header: bool,
+        /// f(1); 0 in a reduced header.
+        pub timing_info_present_flag: bool,
+        /// With `timing_info_present_flag`.
+        pub timing_info: TimingInfo,
+        /// f(1), with `timing_info_present_flag`; else 0. Not looked at in a reduced header.
+        pub decoder_model_info_present_flag: bool,
+        /// With `decoder_model_info_present_flag`.
+        pub decoder_model_info: DecoderModelInfo,
+        /// f(1); 0 in a reduced header.
+        pub initial_display_delay_present_flag: bool,
+        /// f(5); 0 in a reduced header.
+        pub operating_points_cnt_minus_1: u32,
+        /// The first `operating_points_cnt_minus_1` + 1 of them.
+        pub operating_points: [OperatingPoint; 32],
+        /// f(4): the bits of the width, less one.
+        pub frame_width_bits_minus_1: u8,
+        /// f(4): the bits of the height, less one.
+        pub frame_height_bits_minus_1: u8,
+        /// f(`frame_width_bits_minus_1` + 1)
+        pub max_frame_width_minus_1: u32,
+        /// f(`frame_height_bits_minus_1` + 1)
+        pub max_frame_height_minus_1: u32,
+        /// f(1); 0 in a reduced header.
+        pub frame_id_numbers_present_flag: bool,
+        /// f(4), with `frame_id_numbers_present_flag`.
+        pub delta_frame_id_length_minus_2: u32,
+        /// f(3), with `frame_id_numbers_present_flag`.
+        pub additional_frame_id_length_minus_1: u32,
+        /// f(1)
+        pub use_128x128_superblock: bool,
+        /// f(1)
+        pub enable_filter_intra: bool,
+        /// f(1)
+        pub enable_intra_edge_filter: bool,
+        /// f(1); 0 in a reduced header.
+        pub enable_interintra_compound: bool,
+        /// f(1); 0 in a reduced header.
+        pub enable_masked_compound: bool,
+        /// f(1); 0 in a reduced header.
+        pub enable_warped_motion: bool,
+        /// f(1); 0 in a reduced header.
+        pub enable_dual_filter: bool,
+        /// f(1); 0 in a reduced header.
+        pub enable_order_hint: bool,
+        /// f(1), with `enable_order_hint`; else 0.
+        pub enable_jnt_comp: bool,
+        /// f(1), with `enable_order_hint`; else 0.
+        pub enable_ref_frame_mvs: bool,
+        /// f(1), but for a reduced header.
+        pub seq_choose_screen_content_tools: bool,
+        /// f(1); [`SELECT_SCREEN_CONTENT_TOOLS`] with `seq_choose_screen_content_tools` or a reduced header.
+        pub seq_force_screen_content_tools: u32,
+        /// f(1), where `seq_force_screen_content_tools` is over 0.
+        pub seq_choose_integer_mv: bool,
+        /// f(1); [`SELECT_INTEGER_MV`] with `seq_choose_integer_mv`, with a reduced header, or where `seq_force_screen_content_tools` is 0.
+        pub seq_force_integer_mv: u32,
+        /// f(3), with `enable_order_hint`.
+        pub order_hint_bits_minus_1: u8,
+        /// `OrderHintBits`, not coded: one more than `order_hint_bits_minus_1` with `enable_order_hint`; else 0.
+        pub order_hint_bits: u32,
+        /// f(1)
+        pub enable_superres: bool,
+        /// f(1)
+        pub enable_cdef: bool,
+        /// f(1)
+        pub enable_restoration: bool,
+        /// 5.5.2
+        pub color_config: ColorConfig,
+        /// f(1)
+        pub film_grain_params_present: bool,
+    }
+}
+
+record! {
+    /// What the headers say before `quantization_params`.
+    #[derive(Clone, Copy, Debug, Default, PartialEq, Eq, Hash)]
+    pub struct QuantizationContext {
+        /// 1 if `mono_chrome`; any other number counts as 3.
+        pub planes: u32,
+        /// Of the sequence header's `color_config`.
+        pub separate_uv_delta_q: bool,
+    }
+}
+
+record! {
+    /// `quantization_params` (5.9.12). A delta is a flag and, if it is not 0, su(7): -64 to 63.
+    #[derive(Clone, Copy, Debug, Default, PartialEq, Eq, Hash)]
+    pub struct QuantizationParams {
+        /// f(8)
+        pub base_q_idx: u32,
+        /// `DeltaQYDc`
+        pub delta_q_y_dc: i8,
+        /// f(1), with three planes and `separate_uv_delta_q`; 0 with three planes and without.
+        pub diff_uv_delta: bool,
+        /// `DeltaQUDc`; 0 with one plane.
+        pub delta_q_u_dc: i8,
+        /// `DeltaQUAc`; 0 with one plane.
+        pub delta_q_u_ac: i8,
+        /// `DeltaQVDc`; that of U without `diff_uv_delta`.
+        pub delta_q_v_dc: i8,
+        /// `DeltaQVAc`; that of U without `diff_uv_delta`.
+        pub delta_q_v_ac: i8,
+        /// f(1)
+        pub using_qmatrix: bool,
+        /// f(4), with `using_qmatrix`.
+        pub qm_y: u32,
+        /// f(4), with `using_qmatrix`.
+        pub qm_u: u32,
+        /// f(4), with `using_qmatrix` and `separate_uv_delta_q`; that of U with `using_qmatrix` alone.
+        pub qm_v: u32,
+    }
+}
+
+record! {
+    /// What the frame header says before `segmentation_params`.
+    #[derive(Clone, Copy, Debug, Default, PartialEq, Eq, Hash)]
+    pub struct SegmentationContext {
+        /// [`PRIMARY_REF_NONE`]; any other number is a reference.
+        pub primary_ref_frame: u32,
+    }
+}
+
+record! {
+    /// `segmentation_params` (5.9.14). A refusal's index is 8 times the segment, plus the feature.
+    #[derive(Clone, Copy, Debug, Default, PartialEq, Eq, Hash)]
+    pub struct SegmentationParams {
+        /// f(1)
+        pub segmentation_enabled: bool,
+        /// f(1), with a primary reference; else 1.
+        pub segmentation_update_map: bool,
+        /// f(1), with a primary reference and `segmentation_update_map`; 0 without a reference.
+        pub segmentation_temporal_update: bool,
+        /// f(1), with a primary reference; else 1.
+        pub segmentation_update_data: bool,
+        /// `FeatureEnabled`: eight features of eight segments; all 0 without `segmentation_update_data`.
+        pub feature_enabled: [[bool; 8]; 8],
+        /// `FeatureData`, clipped to the feature's limit; all 0 without `segmentation_update_data`.
+        pub feature_data: [[i16; 8]; 8],
+    }
+}
+
+record! {
+    /// What the headers say before `loop_filter_params`.
+    #[derive(Clone, Copy, Debug, Default, PartialEq, Eq, Hash)]
+    pub struct LoopFilterContext {
+        /// `CodedLossless`
+        pub coded_lossless: bool,
+        /// Of the frame header.
+        pub allow_intrabc: bool,
+        /// 1 if `mono_chrome`; any other number counts as 3.
+        pub planes: u32,
+    }
+}
+
+record! {
+    /// `loop_filter_params` (5.9.11). Nothing is coded with `coded_lossless` or `allow_intrabc`.
+    #[derive(Clone, Copy, Debug, Default, PartialEq, Eq, Hash)]
+    pub struct LoopFilterParams {
+        /// f(6) each; 2 and 3 with three planes and 0 or 1 not 0.
+        pub loop_filter_level: [u32; 4],
+        /// f(3)
+        pub loop_filter_sharpness: u32,
+        /// f(1)
+        pub loop_filter_delta_enabled: bool,
+        /// f(1), with `loop_filter_delta_enabled`.
+        pub loop_filter_delta_update: bool,
+        /// A set flag and su(7) each, with `loop_filter_delta_update`; 1, 0, 0, 0, 0, -1, -1, -1 where nothing is coded.
+        pub loop_filter_ref_deltas: [i8; 8],
+        /// A set flag and su(7) each, with `loop_filter_delta_update`; 0, 0 where nothing is coded.
+        pub loop_filter_mode_deltas: [i8; 2],
+    }
+}
+
+record! {
+    /// What the headers say before `cdef_params`.
+    #[derive(Clone, Copy, Debug, Default, PartialEq, Eq, Hash)]
+    pub struct CdefContext {
+        /// `CodedLossless`
+        pub coded_lossless: bool,
+        /// Of the frame header.
+        pub allow_intrabc: bool,
+        /// Of the sequence header.
+        pub enable_cdef: bool,
+        /// 1 if `mono_chrome`; any other number counts as 3.
+        pub planes: u32,
+    }
+}
+
+record! {
+    /// `cdef_params` (5.9.19). Nothing is coded with `coded_lossless` or `allow_intrabc` or without `enable_cdef`.
+    #[derive(Clone, Copy, Debug, Default, PartialEq, Eq, Hash)]
+    pub struct CdefParams {
+        /// f(2): 2^`cdef_bits` of the eight strengths are coded; 0 where nothing is coded.
+        pub cdef_bits: u32,
+        /// 3 to 6, coded less 3 in f(2); 3 where nothing is coded.
+        pub cdef_damping: u32,
+        /// f(4) each.
+        pub cdef_y_pri_strength: [u32; 8],
+        /// 0, 1, 2 or 4 each, f(2).
+        pub cdef_y_sec_strength: [u32; 8],
+        /// f(4) each, with three planes.
+        pub cdef_uv_pri_strength: [u32; 8],
+        /// 0, 1, 2 or 4 each, f(2), with three planes.
+        pub cdef_uv_sec_strength: [u32; 8],
+    }
+}
+
+record! {
+    /// What the headers say before `lr_params`.
+    #[derive(Clone, Copy, Debug, Default, PartialEq, Eq, Hash)]
+    pub struct LoopRestorationContext {
+        /// `AllLossless`
+        pub all_lossless: bool,
+        /// Of the frame header.
+        pub allow_intrabc: bool,
+        /// Of the sequence header.
+        pub enable_restoration: bool,
+        /// 1 if `mono_chrome`; any other number counts as 3.
+        pub planes: u32,
+        /// Of the sequence header.
+        pub use_128x128_superblock: bool,
+        /// Of the sequence header's `color_config`.
+        pub subsampling_x: bool,
+        /// Of the sequence header's `color_config`.
+        pub subsampling_y: bool,
+    }
+}
+
+record! {
+    /// `lr_params` (5.9.20). Nothing is coded with `all_lossless` or `allow_intrabc` or without `enable_restoration`.
+    #[derive(Clone, Copy, Debug, Default, PartialEq, Eq, Hash)]
+    pub struct LoopRestorationParams {
+        /// `lr_type`, f(2) each: none 0, switchable 1, Wiener 2, self-guided 3. With one plane only the first is coded.
+        pub frame_restoration_type: [u32; 3],
+        /// `UsesLr`, not coded: whether a coded kind is not 0.
+        pub uses_lr: bool,
+        /// `usesChromaLr`, not coded: whether a coded kind of chroma is not 0.
+        pub uses_chroma_lr: bool,
+        /// 0 to 2, where `uses_lr`; not 0 with `use_128x128_superblock`.
+        pub lr_unit_shift: u32,
+        /// f(1), where `uses_chroma_lr` and 4:2:0; else 0 where `uses_lr`.
+        pub lr_uv_shift: u32,
+    }
+}
