@@ -22,7 +22,7 @@ pub only : (xs : List ℕ) {r s : SequenceAnswer} → Answers xs r → Answers x
 only xs p q = p ∙ sym q
 
 -- what was read, where the answer is that it was
-was-read : (g : Got SequenceHeaderObu) → answerFor g .outcome ≡ Done → (rest : Bits) × (g ≡ got (answerFor g .«record») rest)
+pub was-read : (g : Got SequenceHeaderObu) → answerFor g .outcome ≡ Done → (rest : Bits) × (g ≡ got (answerFor g .«record») rest)
 unfolding answerFor
 was-read (got h rest) e = (rest, refl)
 was-read (stop r) e = absurd (let n : _≡_ {A = ℕ} 0 1 = cc in omega arith)

@@ -8,3 +8,8 @@ pub mod SequenceReading
 pub mod Answering
 pub mod PayloadParts
 pub mod Demand
+pub mod Sets
+pub mod Found
+pub mod PointSetting
+pub mod ToolSetting
+pub mod Setting

@@ -52,7 +52,7 @@ unfolding operating-points answerOf
 points-end has-model n has-delay l h = beside (filled-end l h)
 
 -- the reduced header's point: only the level is coded
-abbrev no-rest : PointRestTable
+abbrev pub no-rest : PointRestTable
 no-rest = (0, (point-model-in (false, no-operating-parameters-info), point-delay-in (false, 0)))
 
 abbrev one-of-32 : Codec (List OperatingPoint)

@@ -34,10 +34,10 @@ module _ (e : ℕ) {xs : List ℕ} {p : Cursor} {g : GotChoice} where
   pub pass-choice : {r : Answer Choice} → Said got.choice (choice 0 .dec) xs p g → r ≡ got.choice .view g → Reading (λ (a : Choice). a) (choice e) xs p r
   pass-choice s h = pass (choice e) (any s) h
 
-abbrev no-choice-made : Choice
+abbrev pub no-choice-made : Choice
 no-choice-made = choice-in (false, 2)
 
-abbrev reduced-made : InterTools
+abbrev pub reduced-made : InterTools
 reduced-made = inter-tools-in (false, (false, (false, (false, (false, (hint-tools-in (false, false), (no-choice-made, (no-choice-made, hint-bits-in (0, 0)))))))))
 
 module _ {xs : List ℕ} {p : Cursor} where
