@@ -1,4 +1,4 @@
--- A sequence header that is written has few bits, so that its size is never refused.
+-- A sequence header that is written has at most 3553 bits.
 use mathlib.Core.Path.{_≡_, sym, _∙_, ap}
 use mathlib.Core.List.{List}
 use mathlib.Core.Bool.{Bool, true, false}
@@ -15,22 +15,20 @@ use Rattle.bits.proofs.Leaves.{f-fits}
 use Rattle.bits.proofs.CodeLaws.{top-most}
 use Rattle.bits.proofs.Walking.{bounded}
 use Rattle.obu.proofs.Writing.{Few}
-use Rattle.obu.proofs.Framing.{obu-few}
 use Rattle.sequence.specs.declared.record.DecoderModelInfo.{DecoderModelInfo}
 use Rattle.sequence.specs.declared.record.OperatingPoint.{OperatingPoint}
-use Rattle.sequence.specs.declared.record.SequenceHeaderObu.{SequenceHeaderObu}
 use Rattle.sequence.specs.declared.group.Timing.{Timing}
 use Rattle.sequence.specs.declared.group.Points.{Points}
 use Rattle.sequence.specs.declared.group.FrameSize.{FrameSize}
 use Rattle.sequence.specs.declared.group.FrameIds.{FrameIds}
-use Rattle.sequence.specs.Fields.{GeneralTable, ToolsTable, BodyTable, SequenceTable, sequence-out}
+use Rattle.sequence.specs.Fields.{GeneralTable, ToolsTable, BodyTable, SequenceTable}
 use Rattle.sequence.specs.Optional.{f-if, flag-if}
 use Rattle.sequence.specs.Timing.{ticks-per-picture, timing-info, decoder-model-info, timing-info-if, decoder-model-info-if, timing, reduced-timing}
 use Rattle.sequence.specs.Points.{operating-parameters-info, point-model, point-delay, point-rest, operating-point, no-point, operating-points, points, reduced-delay, reduced-point-rest, reduced-point, reduced-points}
 use Rattle.sequence.specs.Frame.{max-frame-size, frame-size-fields, frame-size, frame-ids}
 use Rattle.sequence.specs.Tools.{block-tools, hint-tools, choice, no-choice, integer-mv, hint-bits, motion-tools, order-tools, full-tools, reduced-motion-tools, reduced-order-tools, reduced-tools, inter-tools, filter-tools}
 use Rattle.sequence.specs.Color.{color-values, color-description, sampling, fixed-sampling, mono-planes, srgb-planes, other-planes, planes, color-rest, color-config}
-use Rattle.sequence.specs.Sequence.{profile, full-general, reduced-general, general, grain, tools, body, sequence-header-obu, sequence-header}
+use Rattle.sequence.specs.Sequence.{profile, full-general, reduced-general, general, grain, tools, body, sequence-header-obu}
 use Rattle.sequence.proofs.Laws.{timing-law, frame-size-law}
 
 -- what a walk wrote, and what two did
@@ -82,7 +80,7 @@ timing-width : (t : Timing) (x : Bits) → timing .spells t x → timing .coded 
 unfolding timing via _▷_
 timing-width t x s = model-width _ _ _ (s .3 .3 .3)
 
-full-few : (v : GeneralTable) (x : Bits) → run (full-general .enc v) ≡ wrote x → length x ≤ 5000
+full-few : (v : GeneralTable) (x : Bits) → run (full-general .enc v) ≡ wrote x → length x ≤ 3300
 unfolding full-general _▷_
 full-few v x e =
     let t = timing .coded (v .0) in
@@ -93,7 +91,7 @@ full-few v x e =
           (λ y q z r. omega (arith, part _ r, points-bound (t .«decoder_model_info_present_flag») (t .«decoder_model_info» .«buffer_delay_length_minus_1» + 1) (v .1), timing-width (v .0) y (timing-law .own (v .0) y q))),
     )
 
-general-few : (reduced : Bool) (v : GeneralTable) (x : Bits) → run (general reduced .enc v) ≡ wrote x → length x ≤ 5000
+general-few : (reduced : Bool) (v : GeneralTable) (x : Bits) → run (general reduced .enc v) ≡ wrote x → length x ≤ 3300
 unfolding general choose run
 general-few true v x e = omega (arith, part (reduced-general .enc v) e, reduced-bound v)
 general-few false v x e = full-few v x e
@@ -119,12 +117,12 @@ tools-bound : (seq-profile : ℕ) (reduced : Bool) (v : ToolsTable) → bound (t
 unfolding tools block-tools inter-tools reduced-tools reduced-order-tools reduced-motion-tools full-tools order-tools motion-tools hint-tools choice no-choice integer-mv hint-bits filter-tools grain color-config color-rest color-description color-values planes mono-planes srgb-planes other-planes sampling fixed-sampling f-if flag-if via _▷_ choose select absent f flag inferred inferredFlag bound
 tools-bound seq-profile reduced v = lit≤ tt
 
-body-few : (seq-profile : ℕ) (reduced : Bool) (v : BodyTable) (x : Bits) → run (body seq-profile reduced .enc v) ≡ wrote x → length x ≤ 6000
+body-few : (seq-profile : ℕ) (reduced : Bool) (v : BodyTable) (x : Bits) → run (body seq-profile reduced .enc v) ≡ wrote x → length x ≤ 3548
 unfolding body _▷_
 body-few seq-profile reduced v x e =
     omega (
       arith,
-      two (general reduced .enc (v .0)) _ 5000 248 e
+      two (general reduced .enc (v .0)) _ 3300 248 e
           (λ y q. general-few reduced (v .0) y q)
           (λ y q z u. two (frame-size .enc (v .1 .0)) _ 40 208 u
           (λ y q. size-few (v .1 .0) y q)
@@ -133,23 +131,19 @@ body-few seq-profile reduced v x e =
           (λ y q z u. omega (arith, part _ u, tools-bound seq-profile reduced (v .1 .1 .1))))),
     )
 
-table-few : (v : SequenceTable) (x : Bits) → run (sequence-header-obu .enc v) ≡ wrote x → length x ≤ 7000
+table-few : (v : SequenceTable) (x : Bits) → run (sequence-header-obu .enc v) ≡ wrote x → length x ≤ 3553
 unfolding sequence-header-obu profile within f _▷_ flag bound
 table-few v x e =
     omega (
       arith,
-      two _ _ 3 6002 e
+      two _ _ 3 3550 e
           (λ y q. omega (arith, part _ q))
-          (λ y q z u. two _ _ 1 6001 u
+          (λ y q z u. two _ _ 1 3549 u
           (λ y q. omega (arith, part _ q))
-          (λ y q z u. two _ _ 1 6000 u
+          (λ y q z u. two _ _ 1 3548 u
           (λ y q. omega (arith, part _ q))
           (λ y q z u. body-few _ _ _ z u))),
     )
 
-pub few : (v : SequenceTable) → Few 1000000 (sequence-header-obu .enc v)
-few v = record { most = λ bs e. omega (arith, table-few v bs e) }
-
-pub obu-is-few : (h : SequenceHeaderObu) → Few 2000000 (sequence-header .enc h)
-unfolding sequence-header via
-obu-is-few h = obu-few 1 sequence-header-obu (h .«obu_header») (sequence-out h) (few (sequence-out h))
+pub few : (v : SequenceTable) → Few 3553 (sequence-header-obu .enc v)
+few v = record { most = λ bs e. table-few v bs e }

@@ -13,23 +13,26 @@ use crate::write_tools::filter_tools;
 use crate::write_tools::inter_tools;
 use bits::answer::Cursor;
 use bits::answer::Step;
+use bits::answer::counted;
 use bits::element;
 use obu::answer::Answer;
 use obu::answer::verdict;
 use obu::write::obu_header;
 use obu::write::obu_size;
-use obu::write::payload_bytes;
 use obu::write::trailing_bits;
 use writer::demand;
 use writer::f;
 use writer::flag;
 ghost use mathlib.Core.Path.{_≡_};
-ghost use Prim.Native.Nat.{_+_};
+ghost use mathlib.Core.List.{_++_};
+ghost use Prim.Native.Nat.{_+_, _≤_};
+ghost use lib.ListN.{length};
 ghost use Rattle.bits.specs.Walk.{Walked, _⊕_};
 ghost use Rattle.sequence.specs.Fields.{general-out, grain-out, tools-out, body-out, sequence-out};
 ghost use Rattle.sequence.specs.Timing.{decoder-model-info-if};
 ghost use Rattle.sequence.specs.Sequence.{profile, full-general, reduced-general, general, grain, tools, body, sequence-header-obu, sequence-header};
-ghost use Rattle.obu.specs.Frame.{obu-size, trailing-bits, framed};
+ghost use Rattle.obu.specs.Frame.{bitCount, trailing-bits};
+ghost use Rattle.obu.specs.Delimiter.{octets};
 ghost use Rattle.obu.specs.Writer.{Writes};
 
 fn profile(out: &mut [u8], c: Cursor, v: u32) -> Step
@@ -147,60 +150,56 @@ pub fn sequence_header_obu(out: &mut [u8], c: Cursor, h: SequenceHeaderObu) -> S
     body(out, c, h.seq_profile, h.reduced_still_picture_header, h)
 }
 
-// A payload of n bits, between its size, if flagged, and the trailing bits.
-fn sized_payload(
-    out: &mut [u8],
-    c: Cursor,
-    sized: bool,
-    size: u32,
-    n: usize,
-    h: SequenceHeaderObu,
-) -> Step
-    ensures { λ s. ⌜ Walked (obu-size sized size ⊕ sequence-header-obu .enc (sequence-out h) ⊕ trailing-bits n) c (now (out .entry)) s (now (out .exit)) ⌝ }
+// Two byte strings, one behind the other, written at the start of `out`.
+fn write_strings(first: &[u8], second: &[u8], out: &mut [u8]) -> Answer
+    requires { ⌜ length (now first) + length (now second) ≤ 65536 ⌝ }
+    ensures { λ r. ⌜ Writes (octets (now (first .entry) ++ now (second .entry))) (now (out .entry)) r (now (out .exit)) ⌝ }
 {
-    let s = obu_size(out, c, sized, size);
-    let Step::Next(c) = s else {
-        return s;
-    };
-    let s = sequence_header_obu(out, c, h);
-    let Step::Next(c) = s else {
-        return s;
-    };
-    trailing_bits(out, c, n)
-}
-
-// All behind the OBU header: the payload is counted first.
-fn framed_payload(out: &mut [u8], c: Cursor, sized: bool, h: SequenceHeaderObu) -> Step
-    ensures { λ s. ⌜ Walked (framed sized (sequence-header-obu .enc (sequence-out h))) c (now (out .entry)) s (now (out .exit)) ⌝ }
-{
-    let s = sequence_header_obu(&mut out[0..0], Cursor { at: 0 }, h);
-    let Step::Next(end) = s else {
-        return s;
-    };
-    let n = end.at;
-    sized_payload(out, c, sized, payload_bytes(n), n, h)
-}
-
-// The whole OBU.
-fn sequence_header(out: &mut [u8], c: Cursor, h: SequenceHeaderObu) -> Step
-    ensures { λ s. ⌜ Walked (sequence-header .enc h) c (now (out .entry)) s (now (out .exit)) ⌝ }
-{
-    let s = obu_header(out, c, h.obu_header, 1);
-    let Step::Next(c) = s else {
-        return s;
-    };
-    framed_payload(out, c, h.obu_header.has_size_field, h)
-}
-
-// The sequence header OBU, written at the start of `out`.
-pub fn write_sequence_header(record: SequenceHeaderObu, out: &mut [u8]) -> Answer
-    ensures { λ r. ⌜ Writes (sequence-header .enc «record») (now (out .entry)) r (now (out .exit)) ⌝ }
-{
-    let s = sequence_header(&mut out[0..0], Cursor { at: 0 }, record);
-    let answer = verdict(s, out.len());
+    let n = first.len();
+    let answer = verdict(
+        Step::Next(Cursor {
+            at: (n + second.len()) * 8,
+        }),
+        out.len(),
+    );
     let Answer::Done(_) = answer else {
         return answer;
     };
-    sequence_header(out, Cursor { at: 0 }, record);
+    bytes::copy(first, out);
+    bytes::copy(second, &mut out[n..]);
     answer
+}
+
+// The payload and its trailing bits, from the start of `out`.
+fn padded_payload(out: &mut [u8], h: SequenceHeaderObu) -> Step
+    ensures { λ s. ⌜ Walked (sequence-header-obu .enc (sequence-out h) ⊕ trailing-bits (bitCount (sequence-header-obu .enc (sequence-out h)))) (record { at = 0 }) (now (out .entry)) s (now (out .exit)) ⌝ }
+{
+    let s = sequence_header_obu(out, Cursor { at: 0 }, h);
+    let Step::Next(c) = s else {
+        return s;
+    };
+    trailing_bits(out, c, c.at)
+}
+
+// The sequence header OBU, written at the start of `out`. Each part is walked once, into an array that holds the longest.
+pub fn write_sequence_header(record: SequenceHeaderObu, out: &mut [u8]) -> Answer
+    ensures { λ r. ⌜ Writes (sequence-header .enc «record») (now (out .entry)) r (now (out .exit)) ⌝ }
+{
+    let mut head = [0u8; 10];
+    let s = obu_header(&mut head, Cursor { at: 0 }, record.obu_header, 1);
+    let Step::Next(c) = s else {
+        return verdict(s, out.len());
+    };
+    let mut payload = [0u8; 448];
+    let s = padded_payload(&mut payload, record);
+    let Step::Next(end) = s else {
+        return verdict(s, out.len());
+    };
+    let n = end.at / 8;
+    let s = obu_size(&mut head, c, record.obu_header.has_size_field, counted(n));
+    let Step::Next(c) = s else {
+        return verdict(s, out.len());
+    };
+    let k = c.at / 8;
+    write_strings(&head[..k], &payload[..n], out)
 }
