@@ -25,7 +25,7 @@ use Rattle.obu.specs.declared.answer.Answer.{Answer}
 use Rattle.obu.specs.declared.answer.Answer.the-variants.{Done, Refused}
 use Rattle.obu.specs.declared.header.ObuHeader.{ObuHeader}
 use Rattle.obu.specs.Header.{expected-type, obu-extension-header, header-end, header-table, obu-header}
-use Rattle.obu.specs.Frame.{obu-size, bytesFor, bitCount, padding, trailing-bits, admitted, framed}
+use Rattle.obu.specs.Frame.{obu-size, bytesFor, bitCount, trailing-bits, framed}
 use Rattle.obu.specs.Obu.{obu}
 use Rattle.obu.specs.Delimiter.{octets}
 use Rattle.obu.specs.Demand3.{AreBytes}

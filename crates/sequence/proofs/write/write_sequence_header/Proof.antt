@@ -1,7 +1,7 @@
--- Each part is walked once, into an array.
+-- Each part is walked once, into an array: `Arrays` has the laws.
 use mathlib.Core.Path.{_≡_}
 use mathlib.Core.List.{List, _++_}
-use Prim.Native.Nat.{ℕ, _/_, _≤_}
+use Prim.Native.Nat.{ℕ, _/_}
 use lib.ListN.{length, take, replicate}
 use borrow.Author.Needs.{needs}
 use Rattle.bits.specs.Answers.{counted}
@@ -45,36 +45,59 @@ written-once : (b : SequenceHeaderObu) (k : ℕ) {hs gs ps xs ys : List ℕ} {s 
 unfolding sequence-header via
 written-once b k g i l j m o q w = once sequence-header-obu (sequence-out b) 1 (b .«obu_header») k (few (sequence-out b)) g i l j m o q w
 
--- where the size is written, all is known
+-- Behind the size all is known: the states behind the calls and the tests before it
+abbrev start : tie.After-s3 → tie.Start
+start k = k .before .before .before .before .before .before .before .before .before .before .before .before .before .before .before .before .before .before .before .before
+
+abbrev header : tie.After-s3 → tie.After-obu-header
+header k = k .before .before .before .before .before .before .before .before .before .before .before .before .before .before .before .before .before
+
+abbrev header-done : tie.After-s3 → tie.After-s
+header-done k = k .before .before .before .before .before .before .before .before .before .before .before .before .before .before
+
+abbrev payload : tie.After-s3 → tie.After-padded-payload
+payload k = k .before .before .before .before .before .before .before .before .before .before .before
+
+abbrev payload-done : tie.After-s3 → tie.After-s2
+payload-done k = k .before .before .before .before .before .before .before .before
+
+abbrev bytes : tie.After-s3 → tie.After-counted
+bytes k = k .before .before .before .before
+
+abbrev size : tie.After-s3 → tie.After-obu-size
+size k = k .before .before .before
+
 head-fits : tie.Need-array-share-prefix-head
-head-fits c =
-    let k = c .before .before in
-    head-room 1 (k .before .before .before .before .before .before .before .before .before .before .before .before .before .before .before .before .before .before .before .before .args .«record» .«obu_header») (k .before .before .before .before .counted .result) (k .before .before .before .before .before .before .before .before .before .before .before .before .before .before .before .before .before .obu-header .ensures) (k .before .before .before .before .before .before .before .before .before .before .before .before .before .before .s .given .1) (k .before .before .before .obu-size .ensures) (k .s3 .given .1)
+head-fits c = let k = c .before .before in head-room 1 (start k .args .«record» .«obu_header») (bytes k .counted .result) (header k .obu-header .ensures) (header-done k .s .given .1) (size k .obu-size .ensures) (k .s3 .given .1)
 
 head-counts : tie.Need-slice-aggregate-write-strings
-head-counts c =
-    let k = c .before .before .before in
-    head-count 1 (k .before .before .before .before .before .before .before .before .before .before .before .before .before .before .before .before .before .before .before .before .args .«record» .«obu_header») (k .before .before .before .before .counted .result) (k .before .before .before .before .before .before .before .before .before .before .before .before .before .before .before .before .before .obu-header .ensures) (k .before .before .before .before .before .before .before .before .before .before .before .before .before .before .s .given .1) (k .before .before .before .obu-size .ensures) (k .s3 .given .1)
+head-counts c = let k = c .before .before .before in head-count 1 (start k .args .«record» .«obu_header») (bytes k .counted .result) (header k .obu-header .ensures) (header-done k .s .given .1) (size k .obu-size .ensures) (k .s3 .given .1)
 
 payload-fits : tie.Need-array-share-prefix-payload
-payload-fits c =
-    let k = c .before .before .before in
-    payload-room sequence-header-obu (sequence-out (k .before .before .before .before .before .before .before .before .before .before .before .before .before .before .before .before .before .before .before .before .args .«record»)) (few (sequence-out (k .before .before .before .before .before .before .before .before .before .before .before .before .before .before .before .before .before .before .before .before .args .«record»))) (k .before .before .before .before .before .before .before .before .before .before .before .padded-payload .ensures) (k .before .before .before .before .before .before .before .before .s2 .given .1)
+payload-fits c = let k = c .before .before .before in payload-room sequence-header-obu (sequence-out (start k .args .«record»)) (few (sequence-out (start k .args .«record»))) (payload k .padded-payload .ensures) (payload-done k .s2 .given .1)
 
 payload-counts : tie.Need-slice-aggregate-write-strings-2
-payload-counts c =
-    let k = c .before .before .before .before in
-    payload-count sequence-header-obu (sequence-out (k .before .before .before .before .before .before .before .before .before .before .before .before .before .before .before .before .before .before .before .before .args .«record»)) (few (sequence-out (k .before .before .before .before .before .before .before .before .before .before .before .before .before .before .before .before .before .before .before .before .args .«record»))) (k .before .before .before .before .before .before .before .before .before .before .before .padded-payload .ensures) (k .before .before .before .before .before .before .before .before .s2 .given .1)
+payload-counts c = let k = c .before .before .before .before in payload-count sequence-header-obu (sequence-out (start k .args .«record»)) (few (sequence-out (start k .args .«record»))) (payload k .padded-payload .ensures) (payload-done k .s2 .given .1)
 
 both-few : tie.Need-write-strings-requires
 both-few c κs =
     let k = c .before .before .before .before .before in
-    strings-few (k .s3 .given .0 .0 .at / 8) (k .before .before .before .before .before .before .before .before .s2 .given .0 .0 .at / 8) (k .before .before .before .before .before .before .before .before .before .before .before .before .before .before .before .before .before .obu-header .ensures) (k .before .before .before .obu-size .ensures) (k .before .before .before .before .before .before .before .before .before .before .before .padded-payload .ensures)
+    strings-few (k .s3 .given .0 .0 .at / 8) (payload-done k .s2 .given .0 .0 .at / 8) (header k .obu-header .ensures) (size k .obu-size .ensures) (payload k .padded-payload .ensures)
 
 whole : tie.Need-returns-4
 whole c =
     let k = c .before .before .before .before .before .before .before .before in
-    written-once (k .before .before .before .before .before .before .before .before .before .before .before .before .before .before .before .before .before .before .before .before .args .«record») (k .before .before .before .before .counted .result) (k .before .before .before .before .before .before .before .before .before .before .before .before .before .before .before .before .before .obu-header .ensures) (k .before .before .before .before .before .before .before .before .before .before .before .before .before .before .s .given .1) (k .before .before .before .before .before .before .before .before .before .before .before .padded-payload .ensures) (k .before .before .before .before .before .before .before .before .s2 .given .1) (k .before .before .before .before .counted .ensures) (k .before .before .before .obu-size .ensures) (k .s3 .given .1) (c .before .before .write-strings .ensures)
+    written-once
+    (start k .args .«record»)
+    (bytes k .counted .result)
+    (header k .obu-header .ensures)
+    (header-done k .s .given .1)
+    (payload k .padded-payload .ensures)
+    (payload-done k .s2 .given .1)
+    (bytes k .counted .ensures)
+    (size k .obu-size .ensures)
+    (k .s3 .given .1)
+    (c .before .before .write-strings .ensures)
 
 pub write-sequence-header-spec : {M : Type 1} → statement M
 write-sequence-header-spec =
