@@ -6,7 +6,7 @@
 #   bench/measure.sh run          the table of docs/SPEED.md
 #   bench/measure.sh profile SIDE KIND CASE     instructions per function
 # On Arm (Debian 12 with clang, lld and gcc) the program is compiled for x86-64 and run by qemu-user 7.2, where icount.c counts every instruction.
-# On x86-64 callgrind counts.
+# On x86-64 (with rustc, cc and valgrind) callgrind counts.
 # LIBRARY is the archive that is measured, by default what `rt staticlib boundary` wrote.
 set -euo pipefail
 here=$(dirname "$(readlink -f "$0")")
@@ -19,7 +19,7 @@ cd "$work"
 few=${FEW:-200} many=${MANY:-400}
 
 if [ "$(uname -m)" = x86_64 ]; then
-  rustc=rustc cc=${CC:-cc} link='' include=/usr/include/dav1d
+  rustc=rustc cc=${CC:-cc} link="-L$work/x64/usr/lib/x86_64-linux-gnu -Wl,-rpath,$work/x64/usr/lib/x86_64-linux-gnu" include=$work/x64/usr/include/dav1d
 else
   rustc="env LD_LIBRARY_PATH=$work/host/usr/lib/aarch64-linux-gnu $work/host/usr/bin/rustc --sysroot $work/host/usr --target x86_64-unknown-linux-gnu"
   cc="clang --target=x86_64-linux-gnu --sysroot=$work/x64" link=-fuse-ld=lld include=$work/x64/usr/include/dav1d
@@ -38,6 +38,11 @@ C
   export APT_CONFIG=$work/apt.conf
   apt-get -qq update
 }
+get_library() { # dav1d's alone, where rustc, cc and valgrind are the machine's own
+  mkdir -p x64
+  (cd deb && apt-get -qq download libdav1d6 libdav1d-dev)
+  for d in deb/*_amd64.deb; do dpkg-deb -x "$d" x64; done
+}
 get_packages() { # Debian's, unpacked here
   mkdir -p x64 host qemu
   version=$(apt-cache show rustc-web | sed -n 's/^Depends:.*libstd-rust-web-dev (= \([0-9]*\.[0-9]*\).*/\1/p' | head -1)
@@ -54,7 +59,7 @@ get_packages() { # Debian's, unpacked here
 
 get() {
   get_lists
-  if [ "$(uname -m)" = x86_64 ]; then echo 'wanted too: rustc, cc, valgrind, libdav1d-dev'; else get_packages; fi
+  if [ "$(uname -m)" = x86_64 ]; then get_library; else get_packages; fi
   [ -f dav1d/src/obu.c ] && return
   mkdir -p dav1d
   (cd deb && apt-get -qq source --download-only dav1d)
@@ -73,7 +78,7 @@ build() {
   for f in "$here/bare.c" dav1d/src/getbits.c; do
     $cc -O3 -DNDEBUG -std=c99 -D_GNU_SOURCE -w -ffunction-sections -I. -Idav1d -Idav1d/include "-I$include" -c "$f" -o "$(basename "$f" .c).o"
   done
-  for f in ours driver; do $cc -O2 -Wall "-I$root/include" -c "$here/$f.c" -o $f.o; done
+  for f in ours driver; do $cc -O2 -Wall "-I$root/include" "-I$(dirname "$include")" -c "$here/$f.c" -o $f.o; done
   $cc $link -Wl,--gc-sections -o driver driver.o ours.o bare.o getbits.o "$library" libcrate.a -ldav1d -lgcc_s -lpthread -ldl -lm -lc
   [ "$(uname -m)" = x86_64 ] || gcc -O2 -Wall -shared -fPIC -o icount.so "$here/icount.c"
 }
@@ -116,6 +121,7 @@ profile() {
 
 verb=${1:-}
 [ $# -eq 0 ] || shift
+case $verb in check | run | profile) [ -x driver ] || { echo 'build it first' >&2; exit 1; } ;; esac
 case $verb in
   get | build | check | run | profile) "$verb" "$@" ;;
   *) sed -n '2,10p' "$here/measure.sh"; exit 2 ;;
