@@ -5,6 +5,7 @@ pub mod Leaves
 pub mod CodeLaws
 pub mod Storing
 pub mod Places
+pub mod Words
 pub mod Walking
 pub mod Loops
 pub mod Signs

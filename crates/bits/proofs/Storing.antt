@@ -8,7 +8,7 @@ use native.Mathlib.Omega.{arith}
 use native.Mathlib.Nat.{add-suc, suc-add, add-zero, div-eq-of-lt, lt-of-lt-of-le, le-div-iff-mul-le, one-mul}
 use lib.Pow.{pow-mono, pow-pos}
 use lib.ListN.{length, getD, set, drop, length-set}
-use lib.Seq.{drop-set-lt, set-out}
+use lib.Seq.{drop-set-lt}
 use lib.Dec.{ltb, eqb}
 use borrow.Author.Tests.{lt-ltb, le-ltb, ltb-true, ltb-false, ne-eqb}
 use Rattle.bits.specs.Bits.{Bits, bit, toBits, limit, weight, withBit, setBit, put}
@@ -61,13 +61,6 @@ fits-test v n = ⊎-elim small large (below-or v (2 ^ n))
     large h =
         let p : 1 ≤ v / 2 ^ n = le-div-iff-mul-le (pow-pos n) .1 (rw one-mul h) in
         ne-eqb (v / 2 ^ n) 0 (λ e. omega arith) ∙ sym (le-ltb v (2 ^ n) h)
-
--- a byte stored, and one past the end left out
-pub stored : (xs : List ℕ) (i : ℕ) {x y : ℕ} → x ≡ y → set xs i x ≡ set xs i y
-stored xs i e = ap (set xs i) e
-
-pub stored-out : (xs : List ℕ) (i x : ℕ) → length xs ≤ i → xs ≡ set xs i x
-stored-out xs i x h = sym (set-out xs i x h)
 
 -- a number of 32 bits is below any power from there on
 pub fits-all : (v n : ℕ) → v < 2 ^ 32 → 32 ≤ n → true ≡ ltb v (2 ^ n)

@@ -9,7 +9,7 @@ use lib.ListN.{length, length-append}
 use lib.Dec.{ltb, eqb, leb}
 use mir.Val.{boolByte}
 use borrow.Author.Tests.{lt-ltb, le-ltb, le-leb, lt-leb, eq-eqb, ne-eqb, not-true, not-false}
-use Rattle.bits.specs.Bits.{Bits, toBits, bitAt, put, limit}
+use Rattle.bits.specs.Bits.{Bits, toBits, bitAt, setBit, put, limit}
 use Rattle.bits.specs.Walk.{Walk, none, field, mark, demand, refuse, either, _⊕_, End, done, refused, Out, wrote, refuses, after, join, run, forward, ends, stepOf, Walked, walked, bound}
 use Rattle.bits.specs.declared.answer.Cursor.{Cursor}
 use Rattle.bits.specs.declared.answer.Refusal.{Refusal}
@@ -206,6 +206,10 @@ field-done n v e i c xs ys k t q h b a = walked (rw (← q, h) (rw (a, length-to
 pub field-refused : (n v e i : ℕ) (c : Cursor) (xs : List ℕ) (t : Bool) → t ≡ ltb v (2 ^ n) → t ≡ false → Walked (field n v e i) c xs (Refused (Unfit e i)) xs
 unfolding run stepOf put
 field-refused n v e i c xs t q h = walked (rw (← q, h) refl) (rw (← q, h) refl)
+
+pub mark-done : (b : Bool) (c : Cursor) (xs : List ℕ) {ys : List ℕ} {k : ℕ} → ys ≡ setBit xs (c .at) b → k ≡ forward (c .at) 1 → Walked (mark b) c xs (Next (record { at = k })) ys
+unfolding run stepOf put
+mark-done b c xs h a = walked (rw a) h
 
 -- a flag is a field of one bit
 mark-run : (b : Bool) → run (field 1 (boolByte b) 0 0) ≡ run (mark b)

@@ -68,7 +68,7 @@ put-byte : (xs : List ℕ) (k e : ℕ) → k < 65536 → getD xs k 0 < 256 → e
 put-byte xs k e l h b =
     let i : k * 8 / 8 ≡ k = omega arith in
     let d : 8 - k * 8 % 8 - 8 ≡ 0 = omega arith in
-    let s = stores-on (stores-all {xs = xs} {at = k * 8} {n = 8} {v = e} (lit< tt)) 8 e (omega arith) (omega arith) (omega arith) refl in
+    let s = stores-on (stores-all {xs = xs} {at = k * 8} {n = 8} {v = e} (lit< tt)) 8 e (omega arith) (omega arith) (omega arith) (omega arith) refl in
     sym (stores-end s (omega arith)) ∙ rw (i, d, blend-all (getD xs k 0) e h b)
 
 -- .. and all of them, behind what stands before them

@@ -1,22 +1,24 @@
 -- Several bits of one byte stored at once: the same as one at a time.
 use mathlib.Core.Path.{_≡_, refl, sym, ap, _∙_}
-use mathlib.Core.List.{List, [], _∷_, _++_}
+use mathlib.Core.List.{List, [], _∷_}
 use mathlib.Core.Logic.{⊎-elim}
-use Prim.Native.Nat.{ℕ, zero, suc, _+_, _-_, _*_, _/_, _%_, _^_, _≤_, _<_, min}
+use Prim.Native.Nat.{ℕ, zero, suc, _+_, _-_, _*_, _/_, _%_, _^_, _≤_, _<_}
 use native.Mathlib.Omega.{arith}
-use native.Mathlib.Nat.{add-suc, suc-add, add-zero, zero-add, add-mul, mul-assoc, mul-comm, mul-add-mod-self-right, mod-lt, mod-one, pow-suc, div-add-mod', zero-mul, add-comm, div-mul-le-self, div-eq-of-lt, lt-of-lt-of-le}
+use native.Mathlib.Nat.{add-suc, suc-add, add-zero, zero-add, add-mul, mul-assoc, mul-comm, mul-add-mod-self-right, mod-lt, mod-one, pow-suc, div-add-mod', zero-mul, div-eq-of-lt, lt-of-lt-of-le}
 use lib.Arith.{digits-div, digits-lt}
-use lib.Pow.{pow-pos, pow-add, mod-mod-pow, mod-pow-add, shr-shr, shr-lt, pow-mono}
+use lib.Pow.{pow-pos, pow-add, mod-mod-pow, mod-pow-add, shr-lt, pow-mono}
 use lib.ListN.{length, getD, set, length-set}
 use lib.Dec.{eqb, ltb, lit<}
 use lib.Seq.{set-out, set-set, getD-set-same, set-getD}
 use borrow.Author.Tests.{lt-ltb}
+use mir.Val.{boolByte}
 use mathlib.Core.Bool.{Bool, true, false, cond}
 use Rattle.bits.specs.Bits.{Bits, bit, bitAt, toBits, put, setBit, withBit, weight, limit}
 use Rattle.writer.specs.Blend.{blend}
 use Rattle.bits.proofs.Numbers.{length-toBits, bit-of-two}
-use Rattle.bits.proofs.Storing.{below-or, put-append, put-far, put-none}
+use Rattle.bits.proofs.Storing.{below-or, put-append, put-far, put-none, length-setBit}
 use Rattle.bits.proofs.Places.{weight-pow}
+use Rattle.bits.proofs.Words.{bits-split}
 
 blend-none : (x d u : ℕ) → blend x 0 d u ≡ x
 unfolding blend
@@ -91,12 +93,6 @@ module _ (i d u : ℕ) (near : i * 8 + 8 ≤ limit) where
       ∙ set-twice xs i (withBit (getD xs i 0) (2 ^ (k + d)) (u / 2 ^ k % 2)) (λ (y : ℕ). blend y k d u)
       ∙ ap (set xs i) (blend-step (getD xs i 0) u k d)
 
--- k bits of a number of more bits
-bits-split : (k m v : ℕ) → toBits (k + m) v ≡ toBits k (v / 2 ^ m) ++ toBits m v
-unfolding toBits bitAt
-bits-split zero m v = rw zero-add
-bits-split (suc k) m v = rw (suc-add, shr-shr, add-comm m k) (ap (λ (l : Bits). eqb (v / 2 ^ (k + m) % 2) 1 ∷ l) (bits-split k m v))
-
 -- what a turn of the loop stores: k bits, of which there is room in the byte at the place, and then the others
 put-turn : (xs : List ℕ) (at n v k d : ℕ) → at < limit → at % 8 + (k + d) ≡ 8 → k ≤ n → put xs at (toBits n v) ≡ put (set xs (at / 8) (blend (getD xs (at / 8) 0) k d (v / 2 ^ (n - k)))) (at + k) (toBits (n - k) v)
 put-turn xs at n v k d l r h =
@@ -108,6 +104,31 @@ put-turn xs at n v k d l r h =
     ∙ put-append xs at (toBits k (v / 2 ^ (n - k))) (toBits (n - k) v)
     ∙ rw (c, length-toBits) refl
 
+-- the same of one bit
+bit-turn : (ys : List ℕ) (place v m : ℕ) → 0 < m → {b : Bool} {zs : List ℕ} → b ≡ bitAt (m - 1) v → zs ≡ setBit ys place b → put zs (place + 1) (toBits (m - 1) v) ≡ put ys place (toBits m v)
+unfolding put toBits
+bit-turn ys place v zero h t e = absurd (omega arith)
+bit-turn ys place v (suc m) h t e =
+    let p : place + 1 ≡ suc place = omega arith in
+    let k : suc m - 1 ≡ m = omega arith in
+    rw (e, t, p, k)
+
+bit-own : (b : Bool) → bitAt 0 (boolByte b) ≡ b
+unfolding bitAt
+bit-own true = refl
+bit-own false = refl
+
+pub bit-stored : (xs : List ℕ) (at : ℕ) (b : Bool) {x : ℕ} → at < limit → x ≡ blend (getD xs (at / 8) 0) 1 (7 - at % 8) (boolByte b) → set xs (at / 8) x ≡ setBit xs at b
+unfolding put toBits
+bit-stored xs at b l e =
+    let g : at / 8 * 8 + at % 8 ≡ at = omega arith in
+    let c : put xs at (toBits 1 (boolByte b)) ≡ set xs (at / 8) (blend (getD xs (at / 8) 0) 1 (7 - at % 8) (boolByte b)) = rw g at (put-chunk (at / 8) (7 - at % 8) (boolByte b) (omega arith) 1 xs (at % 8) (omega arith)) in
+    ap (set xs (at / 8)) e ∙ sym c ∙ ap (setBit xs at) (bit-own b)
+
+pub bit-far : (xs : List ℕ) (at : ℕ) (b : Bool) → limit ≤ at → xs ≡ setBit xs at b
+unfolding put
+bit-far xs at b h = sym (put-far xs at (b ∷ []) h)
+
 -- nothing is stored past the end
 set-bit-past : (xs : List ℕ) (at : ℕ) (b : Bool) → length xs ≤ at / 8 → setBit xs at b ≡ xs
 unfolding setBit
@@ -116,6 +137,9 @@ set-bit-past xs at b h = go (ltb at limit)
     go : (t : Bool) → cond t (set xs (at / 8) (withBit (getD xs (at / 8) 0) (weight (at % 8)) (bit b))) xs ≡ xs
     go true = set-out xs (at / 8) _ h
     go false = refl
+
+pub bit-past : (xs : List ℕ) (at : ℕ) (b : Bool) → length xs ≤ at / 8 → xs ≡ setBit xs at b
+bit-past xs at b h = sym (set-bit-past xs at b h)
 
 put-past : (xs : List ℕ) (at : ℕ) (bs : Bits) → length xs ≤ at / 8 → put xs at bs ≡ xs
 unfolding put
@@ -142,11 +166,20 @@ module _ {xs ys : List ℕ} {at n v place left : ℕ} (g : Stores xs at n v ys p
   pub stores-end : left ≤ 0 → ys ≡ put xs at (toBits n v)
   stores-end h = sym (put-none ys place left v h) ∙ g .so
 
-  pub stores-on : (k u : ℕ) {zs : List ℕ} → place < limit → k ≡ min left (8 - place % 8) → u ≡ v / 2 ^ (left - k)
+  pub stores-on : (k u : ℕ) {zs : List ℕ} → place < limit → k ≤ left → place % 8 + k ≤ 8 → u ≡ v / 2 ^ (left - k)
       → zs ≡ set ys (place / 8) (blend (getD ys (place / 8) 0) k (8 - place % 8 - k) u) → Stores xs at n v zs (place + k) (left - k)
-  stores-on k u {zs} l h q e = record {
-    so = rw (e, q) (sym (put-turn ys place left v k (8 - place % 8 - k) l (omega arith) (omega arith)) ∙ g .so);
+  stores-on k u {zs} l h r q e = record {
+    so = rw (e, q) (sym (put-turn ys place left v k (8 - place % 8 - k) l (omega arith) h) ∙ g .so);
     size = ap length e ∙ length-set ys _ _ ∙ g .size;
+    most = omega (arith, g .most);
+    narrow = g .narrow;
+  }
+
+  pub stores-bit : (u : ℕ) {zs : List ℕ} → 0 < left → u ≡ v / 2 ^ (left - 1) → zs ≡ setBit ys place (eqb (u % 2) 1) → Stores xs at n v zs (place + 1) (left - 1)
+  unfolding bitAt
+  stores-bit u h q e = record {
+    so = bit-turn ys place v left h (ap (λ (x : ℕ). eqb (x % 2) 1) q) e ∙ g .so;
+    size = ap length e ∙ length-setBit ys place _ ∙ g .size;
     most = omega (arith, g .most);
     narrow = g .narrow;
   }
@@ -163,29 +196,8 @@ blend-below x k d u h l =
     let g : x / 2 ^ (k + d) * 2 ^ (k + d) + (u % 2 ^ k * 2 ^ d + x % 2 ^ d) < 2 ^ (8 - (k + d)) * 2 ^ (k + d) = digits-lt q (rw pow-add f) in
     omega arith
 
--- What the code's sums and products need, with the powers by the names that the code has for them: h is 2 ^ (k + d), l is 2 ^ d, m is 2 ^ k.
-pub blend-high : (x h : ℕ) → x < 2 ^ 8 → x / h * h < 2 ^ 64
-blend-high x h b = omega (arith, div-mul-le-self x h)
-
-module _ (x k d u h l m : ℕ) (s : k + d ≤ 8) (b : x < 2 ^ 8) (eh : h ≡ 2 ^ (k + d)) (el : l ≡ 2 ^ d) (em : m ≡ 2 ^ k) where
-  pub blend-is : x / h * h + u % m * l + x % l ≡ blend x k d u
-  unfolding blend
-  blend-is = rw (eh, el, em)
-
-  all : x / h * h + u % m * l + x % l < 256
-  all = rw blend-is (blend-below x k d u s b)
-
-  pub blend-middle : u % m * l < 2 ^ 64
-  blend-middle = omega (arith, all)
-
-  pub blend-two : x / h * h + u % m * l < 2 ^ 64
-  blend-two = omega (arith, all)
-
-  pub blend-sum : x / h * h + u % m * l + x % l < 2 ^ 64
-  blend-sum = omega (arith, all)
-
-  pub blend-byte : x / h * h + u % m * l + x % l < 2 ^ 8
-  blend-byte = all
+pub blend-byte-fits : (x k d u : ℕ) {r : ℕ} → k + d ≤ 8 → x < 2 ^ 8 → r ≡ blend x k d u → r < 2 ^ 8
+blend-byte-fits x k d u h l e = rw e (blend-below x k d u h l)
 
 -- nothing is above a number's width
 pub none-above : (v k : ℕ) → v < 2 ^ 32 → 64 ≤ k → 0 ≡ v / 2 ^ k

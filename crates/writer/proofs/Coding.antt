@@ -1,17 +1,34 @@
 -- How the code of uvlc and leb128 meets its walk.
-use mathlib.Core.Path.{_≡_, refl}
-use mathlib.Core.List.{List}
+use mathlib.Core.Path.{_≡_, refl, sym}
+use mathlib.Core.List.{List, [], _∷_, _++_}
+use mathlib.Core.Bool.{true}
 use Prim.Native.Nat.{ℕ, _+_, _-_, _^_, _/_, _%_, _≤_, _<_}
 use native.Mathlib.Omega.{arith}
-use Rattle.bits.specs.Walk.{Walk, field, Walked}
+use lib.Pow.{pow-lt, pow-pos}
+use borrow.Author.Tests.{lt-ltb, le-leb}
+use Rattle.bits.specs.Bits.{bitAt, toBits, put}
+use Rattle.bits.specs.Walk.{Walk, field, forward, join, run, Walked}
 use Rattle.bits.specs.Codec.{f, recode, _▷_}
 use Rattle.bits.specs.Codes.{topBit, unary, uvlc, leb128}
 use Rattle.bits.specs.declared.answer.Cursor.{Cursor}
 use Rattle.bits.specs.declared.answer.Refusal.{Refusal}
 use Rattle.bits.specs.declared.answer.Step.{Step}
 use Rattle.bits.specs.declared.answer.Step.the-variants.{Next, Refused}
+use Rattle.bits.proofs.Words.{bits-split}
 use Rattle.bits.proofs.CodeLaws.{top-takes, leb-more, leb-last}
-use Rattle.bits.proofs.Walking.{hop, halt, Left, left-all, left-more, left-halt, as-run}
+use Rattle.bits.proofs.Walking.{field-done, hop, halt, Left, left-all, left-more, left-halt, as-run}
+
+-- z zeros and a one are the number 1 in z + 1 bits
+one-bits : (z : ℕ) → toBits (z + 1) 1 ≡ toBits z 0 ++ (true ∷ [])
+unfolding toBits bitAt
+one-bits z = bits-split z 1 1
+
+unary-run : (z e i : ℕ) → z ≤ 31 → run (field (z + 1) 1 0 0) ≡ run (unary 31 e i .enc z)
+unfolding run unary join
+unary-run z e i h = rw (lt-ltb 1 (2 ^ (z + 1)) (pow-lt {i = 0} (omega arith)), le-leb z 31 h, lt-ltb 0 (2 ^ z) (pow-pos z), one-bits z)
+
+pub unary-done : (z e i : ℕ) (c : Cursor) (xs : List ℕ) {ys : List ℕ} {k : ℕ} → z ≤ 31 → ys ≡ put xs (c .at) (toBits (z + 1) 1) → k ≡ forward (c .at) (z + 1) → Walked (unary 31 e i .enc z) c xs (Next (record { at = k })) ys
+unary-done z e i c xs h b a = as-run (unary-run z e i h) (field-done (z + 1) 1 0 0 c xs _ _ true (sym (lt-ltb 1 (2 ^ (z + 1)) (pow-lt {i = 0} (omega arith)))) refl b a)
 
 -- uvlc: z is the place of the highest one of v + 1, and p its power
 module _ (v z : ℕ) (q : z ≡ topBit 32 (v + 1)) where

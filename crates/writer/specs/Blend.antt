@@ -1,6 +1,6 @@
--- Several bits of one byte at once: how the store works, by bytes and not by bits.
+-- Several bits of a number at once: how the store works, and not by bits.
 use Prim.Native.Nat.{ℕ, _+_, _*_, _/_, _%_, _^_}
 
--- x with the k bits above its d low ones made the k low bits of u
+-- w with the n bits above its d low ones made the n low bits of v
 unfoldable pub blend : ℕ → ℕ → ℕ → ℕ → ℕ
-blend x k d u = x / 2 ^ (k + d) * 2 ^ (k + d) + u % 2 ^ k * 2 ^ d + x % 2 ^ d
+blend w n d v = w / 2 ^ (n + d) * 2 ^ (n + d) + v % 2 ^ n * 2 ^ d + w % 2 ^ d

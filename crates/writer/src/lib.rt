@@ -7,6 +7,7 @@ use crate::number::smaller;
 use crate::number::su_code;
 use crate::number::top_bit;
 use crate::store::put;
+use crate::store::put_bit;
 use bits::answer::Cursor;
 use bits::answer::LIMIT;
 use bits::answer::Refusal;
@@ -53,7 +54,9 @@ pub fn f(out: &mut [u8], c: Cursor, n: u32, value: u32, element: u8, index: u8) 
 pub fn flag(out: &mut [u8], c: Cursor, value: bool) -> Step
     ensures { λ r. ⌜ Walked (mark value) c (now (out .entry)) r (now (out .exit)) ⌝ }
 {
-    f(out, c, 1, value as u32, 0, 0)
+    let at = c.at;
+    put_bit(out, at, value);
+    Step::Next(Cursor { at: forward(at, 1) })
 }
 
 // A rule that a record has to keep.
@@ -71,11 +74,10 @@ fn unary(out: &mut [u8], c: Cursor, z: u32, element: u8, index: u8) -> Step
     ensures { λ r. ⌜ Walked (unary 31 element index .enc z) c (now (out .entry)) r (now (out .exit)) ⌝ }
 {
     if z <= 31 {
-        let s = f(out, c, z, 0, 0, 0);
-        let Step::Next(c) = s else {
-            return s;
-        };
-        return flag(out, c, true);
+        let at = c.at;
+        let n = z + 1;
+        put(out, at, n, 1);
+        return Step::Next(Cursor { at: forward(at, n) });
     }
     Step::Refused(Refusal::Unfit(element, index))
 }

@@ -1,6 +1,7 @@
 use borrow.Author.Needs.{needs}
 use Rattle.bits.proofs.Walking.{walk}
 use Rattle.bits.specs.Codes.{unary}
+use Rattle.writer.proofs.Coding.{unary-done}
 use Rattle.writer.proofs.unary.Statement.{statement}
 use Rattle.writer.proofs.unary.Tie as tie
 
@@ -9,6 +10,5 @@ unfolding unary
 unary-spec =
     tie.close
     (tie.spec
-    (λ c κs. search needs) (λ c. search needs) (λ c. search needs) (λ c. search needs) (λ c. search walk depth 14)
-    (λ c κs. search needs) (λ c. search needs) (λ c. search walk depth 14)
+    (λ c. search needs) (λ c κs. search needs) (λ c κs. search needs) (λ c. search needs) (λ c. search unary-done)
     (λ c. search walk depth 14))
