@@ -50,8 +50,7 @@ written w xs = let a = answerTo (run w .end) (length (run w .bits)) (length xs) 
 pub data Writes (w : Walk) (xs : List ℕ) (r : Answer) (ys : List ℕ) : Type 0 where
   writes : r ≡ written w xs .answer → ys ≡ written w xs .bytes → Writes w xs r ys
 
--- The same answer, told by the last step of a walk that began at place 0: so a writer's first pass ends, which goes over an empty part of the slice and
--- only counts.
+-- The same answer, told by the last step of a walk that began at place 0 and left the slice alone: over an empty part of it, or over an array.
 
 abbrev pub afterStep : Step → ℕ → Answer
 afterStep (Halted r) len = Refused r

@@ -1,4 +1,4 @@
-// What a public writer answers, and how the pass that only counts tells it.
+// What a public writer answers, and how it is known before the slice is written.
 use bits::answer::Numbered;
 use bits::answer::Refusal;
 use bits::answer::Step;
@@ -27,8 +27,7 @@ pub fn answer_numbers(a: Answer) -> Numbered
     }
 }
 
-// A writer walks twice: first over an empty part of its slice, where nothing can be stored, and if that ends in `Done`, over the slice. This is
-// the answer, from the first walk's last step and the length of the slice.
+// The answer, from the last step of a walk that leaves the slice alone and the length of the slice: only where it is `Done` is the slice written.
 pub fn verdict(s: Step, len: usize) -> Answer
     ensures { λ r. ⌜ r ≡ verdict s len ⌝ }
 {

@@ -4,14 +4,13 @@ use mathlib.Core.List.{List, [], _∷_, _++_, append-assoc, append-nil}
 use mathlib.Core.Bool.{Bool, true, false, cond}
 use Prim.Native.Nat.{ℕ, zero, suc, _+_, _-_, _*_, _/_, _≤_}
 use native.Mathlib.Omega.{arith}
-use lib.Dec.{ltb, lit≤}
+use lib.Dec.{ltb}
 use lib.ListN.{length, length-append, replicate, length-replicate, take, drop, length-take, length-drop}
 use lib.Seq.{take-at, drop-at, length-take-le, take-length, drop-length, drop-drop}
 use borrow.Rule.Slice.PartMut.{putMid}
 use Rattle.bits.specs.Bits.{Bits, toBits, bitsOf, put}
 use Rattle.bits.specs.Walk.{Walk, _⊕_, End, done, refused, Out, wrote, after, join, run, ends, stepOf, forward, bound, Walked, walked}
-use Rattle.bits.specs.Codec.{Codec, _▷_, choose, via, allowed, f, flag, zeros, absent, merged, nil}
-use Rattle.bits.specs.Codes.{leb128, leb-step, tooLong}
+use Rattle.bits.specs.Codec.{Codec, nil}
 use Rattle.bits.specs.Answers.{counted}
 use Rattle.bits.specs.Lawful.{strict}
 use Rattle.bits.specs.declared.answer.Cursor.{Cursor}
@@ -24,7 +23,7 @@ use Rattle.bits.proofs.Walking.{answer, bytes, kept, bounded, hop, halt}
 use Rattle.obu.specs.declared.answer.Answer.{Answer}
 use Rattle.obu.specs.declared.answer.Answer.the-variants.{Done, Refused}
 use Rattle.obu.specs.declared.header.ObuHeader.{ObuHeader}
-use Rattle.obu.specs.Header.{expected-type, obu-extension-header, header-end, header-table, obu-header}
+use Rattle.obu.specs.Header.{obu-header}
 use Rattle.obu.specs.Frame.{obu-size, bytesFor, bitCount, trailing-bits, framed}
 use Rattle.obu.specs.Obu.{obu}
 use Rattle.obu.specs.Delimiter.{octets}
@@ -33,7 +32,7 @@ use Rattle.obu.specs.Writer.{stored, written, Writes, writes, verdict}
 use Rattle.obu.proofs.Bytes.{pack, pack-length, pack-bytes, bitsOf-pack, take-put-bytes}
 use Rattle.obu.proofs.Headers.{header-law, header-length}
 use Rattle.obu.proofs.Frames.{tail, sizeOut, tail-run, framed-run, size-own, size-length, frame-length}
-use Rattle.obu.proofs.Framing.{size-total}
+use Rattle.obu.proofs.Framing.{size-total, head-few, size-few}
 use Rattle.obu.proofs.Strings.{octets-run, writes-as, string-room, string-ended, string-filled}
 use Rattle.obu.proofs.Writing.{Few, few-by, origin, counts}
 
@@ -68,14 +67,6 @@ passed {w = w} F l p q =
     ((λ i. record { bits = run w .bits; end = c .0 i }), c .1, c .2)
 
 -- The header and the size: at most ten bytes, all whole
-head-few : (t : ℕ) (h : ObuHeader) → bound (obu-header t .enc h) ≤ 16
-unfolding bound obu-header header-table header-end expected-type obu-extension-header _▷_ choose via allowed f flag zeros absent
-head-few t h = lit≤ tt
-
-size-few : (sized : Bool) (n : ℕ) → bound (obu-size sized n) ≤ 64
-unfolding obu-size leb128 tooLong merged leb-step _▷_ choose f absent bound
-size-few sized n = lit≤ tt
-
 sized-few : (t : ℕ) (h : ObuHeader) (sized : Bool) (n : ℕ) → Few 80 (obu-header t .enc h ⊕ obu-size sized n)
 unfolding bound
 sized-few t h sized n = few-by (omega (arith, head-few t h, size-few sized n))
