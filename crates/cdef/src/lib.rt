@@ -9,7 +9,7 @@ use bits::element::CDEF_UV_SEC_STRENGTH;
 use bits::element::CDEF_Y_PRI_STRENGTH;
 use bits::element::CDEF_Y_SEC_STRENGTH;
 use parts::answer::Answer;
-use parts::check::any;
+use parts::inferred::any;
 use parts::place::verdict;
 use writer::demand;
 use writer::f;

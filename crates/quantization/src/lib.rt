@@ -12,7 +12,7 @@ use bits::element::QM_U;
 use bits::element::QM_V;
 use bits::element::QM_Y;
 use parts::answer::Answer;
-use parts::check::inferred_delta;
+use parts::inferred::inferred_delta;
 use parts::place::verdict;
 use writer::demand;
 use writer::f;

@@ -7,7 +7,7 @@ use bits::element::SEGMENTATION_TEMPORAL_UPDATE;
 use bits::element::SEGMENTATION_UPDATE_DATA;
 use bits::element::SEGMENTATION_UPDATE_MAP;
 use parts::answer::Answer;
-use parts::check::inferred_flag;
+use parts::inferred::inferred_flag;
 use parts::place::verdict;
 use writer::demand;
 use writer::f;

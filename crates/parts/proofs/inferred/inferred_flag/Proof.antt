@@ -1,8 +1,8 @@
 use borrow.Author.Needs.{needs}
 use Rattle.bits.specs.Codec.{inferredFlag}
 use Rattle.bits.proofs.Walking.{walk-by}
-use Rattle.parts.proofs.check.inferred_flag.Statement.{statement}
-use Rattle.parts.proofs.check.inferred_flag.Tie as tie
+use Rattle.parts.proofs.inferred.inferred_flag.Statement.{statement}
+use Rattle.parts.proofs.inferred.inferred_flag.Tie as tie
 
 pub inferred-flag-spec : {M : Type 1} → statement M
 unfolding inferredFlag

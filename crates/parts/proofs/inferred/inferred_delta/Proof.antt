@@ -2,8 +2,8 @@ use borrow.Author.Needs.{needs}
 use Rattle.bits.proofs.Walking.{walk-by}
 use Rattle.parts.specs.Codes.{inferredSigned}
 use Rattle.parts.proofs.Signs.{same-word}
-use Rattle.parts.proofs.check.inferred_delta.Statement.{statement}
-use Rattle.parts.proofs.check.inferred_delta.Tie as tie
+use Rattle.parts.proofs.inferred.inferred_delta.Statement.{statement}
+use Rattle.parts.proofs.inferred.inferred_delta.Tie as tie
 
 pub inferred-delta-spec : {M : Type 1} → statement M
 unfolding inferredSigned
