@@ -4,6 +4,7 @@ pub mod Laws
 pub mod Leaves
 pub mod CodeLaws
 pub mod Storing
+pub mod Pieces
 pub mod Places
 pub mod Words
 pub mod Walking

@@ -10,7 +10,9 @@ use bits::element::CDEF_Y_PRI_STRENGTH;
 use bits::element::CDEF_Y_SEC_STRENGTH;
 use parts::answer::Answer;
 use parts::inferred::any;
-use parts::place::verdict;
+use parts::place::lend;
+use parts::place::settle;
+use parts::place::start;
 use writer::demand;
 use writer::f;
 ghost use mathlib.Core.Path.{_≡_};
@@ -204,12 +206,8 @@ fn cdef_params(out: &mut [u8], c: Cursor, p: CdefParams, k: CdefContext) -> Step
 pub fn write_cdef_params(p: CdefParams, k: CdefContext, out: &mut [u8], place: u32) -> Answer
     ensures { λ r. ⌜ Writes (cdef-params k .enc p) place (now (out .entry)) r (now (out .exit)) ⌝ }
 {
-    let start = Cursor { at: place as usize };
-    let s = cdef_params(&mut out[0..0], start, p, k);
-    let answer = verdict(s, out.len());
-    let Answer::Done(_) = answer else {
-        return answer;
-    };
-    cdef_params(out, start, p, k);
-    answer
+    let mut near = [0u8; 24];
+    lend(out, place, &mut near);
+    let s = cdef_params(&mut near, start(place), p, k);
+    settle(s, place, &near, out)
 }

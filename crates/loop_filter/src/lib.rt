@@ -8,7 +8,9 @@ use bits::element::LOOP_FILTER_SHARPNESS;
 use parts::answer::Answer;
 use parts::inferred::either;
 use parts::inferred::inferred_delta;
-use parts::place::verdict;
+use parts::place::lend;
+use parts::place::settle;
+use parts::place::start;
 use writer::demand;
 use writer::f;
 use writer::flag;
@@ -282,12 +284,8 @@ pub fn write_loop_filter_params(
 ) -> Answer
     ensures { λ r. ⌜ Writes (loop-filter-params k no-old .enc p) place (now (out .entry)) r (now (out .exit)) ⌝ }
 {
-    let start = Cursor { at: place as usize };
-    let s = loop_filter_params(&mut out[0..0], start, p, k);
-    let answer = verdict(s, out.len());
-    let Answer::Done(_) = answer else {
-        return answer;
-    };
-    loop_filter_params(out, start, p, k);
-    answer
+    let mut near = [0u8; 24];
+    lend(out, place, &mut near);
+    let s = loop_filter_params(&mut near, start(place), p, k);
+    settle(s, place, &near, out)
 }

@@ -1,29 +1,28 @@
--- The laws by which a part's writer of two walks meets its contract, and what the contract fixes.
+-- What a part's contract fixes, and the law by which a writer that walks over an array meets it.
 use mathlib.Core.Path.{_≡_, refl, sym, ap, _∙_}
-use mathlib.Core.List.{List, [], _∷_, _++_}
+use mathlib.Core.List.{List, _++_}
 use mathlib.Core.Bool.{Bool, true, false, cond}
-use Prim.Native.Nat.{ℕ, _+_, _*_, _≤_, _<_}
+use Prim.Native.Nat.{ℕ, _+_, _-_, _*_, _/_, _%_, _≤_, _<_}
 use native.Mathlib.Omega.{arith}
 use borrow.Author.Tests.{lt-ltb, le-ltb, ltb-false}
 use lib.Dec.{ltb}
-use lib.ListN.{length, take, drop}
-use mir.Syntax.{w32}
-use mir.Val.{Fits}
+use lib.ListN.{length, take, drop, replicate, length-replicate, length-append, length-take, length-drop, take-append-drop}
+use lib.Seq.{take-append-le, take-take}
 use Rattle.bits.specs.Bits.{Bits, put, from, end}
 use Rattle.bits.specs.Walk.{Walk, End, done, refused, wrote, run, ends, stepOf, bound, forward, Walked}
 use Rattle.bits.specs.Codec.{Codec, got}
 use Rattle.bits.specs.Lawful.{loose, Lawful}
-use Rattle.bits.specs.Answers.{counted}
 use Rattle.bits.specs.declared.answer.Cursor.{Cursor}
 use Rattle.bits.specs.declared.answer.Refusal.{Refusal}
 use Rattle.bits.specs.declared.answer.Refusal.the-variants.{Short, Long}
 use Rattle.bits.specs.declared.answer.Step.{Step}
-use Rattle.bits.specs.declared.answer.Step.the-variants as S
 use Rattle.bits.proofs.Walking.{answer, bytes, kept, bounded}
+use Rattle.bits.proofs.Storing.{put-beyond}
+use Rattle.bits.proofs.Pieces.{take-put, drop-put, put-out}
 use Rattle.bits.proofs.Places.{end-is, put-bits, put-front}
 use Rattle.parts.specs.declared.answer.Answer.{Answer}
 use Rattle.parts.specs.declared.answer.Answer.the-variants.{Done, Refused}
-use Rattle.parts.specs.Written.{keep, bytesTo, afterWalk, written, Writes, writes, reaches, verdict}
+use Rattle.parts.specs.Written.{Written, keep, bytesTo, afterWalk, written, Writes, writes, lent, reach, Held, held, afterNear, settled, Settles, settles}
 
 -- Two answers that the contract allows are equal, and so are two contents of the slice.
 pub only : {w : Walk} {place : ℕ} {xs ys zs : List ℕ} {r s : Answer} → Writes w place xs r ys → Writes w place xs s zs → (r ≡ s) × (ys ≡ zs)
@@ -47,47 +46,6 @@ module _ (w : Walk) (place : ℕ) (xs : List ℕ) where
       → written w place xs ≡ record { answer = Done (place + length (run w .bits)); bytes = put xs place (run w .bits) }
   unfolding written
   written-whole h e l = rw (le-ltb 65536 (length xs) h, e, le-ltb (length xs * 8) (place + length (run w .bits)) l)
-
-abbrev at : ℕ → Cursor
-at place = record { at = place }
-
--- a walk of few bits, which no place makes pass the limit
-pub record Few (w : Walk) : Type 0 where
-  pub most : bound w ≤ 4096
-
-near-end : (w : Walk) (place : ℕ) → Few w → place < 4294967296 → forward place (length (run w .bits)) ≡ place + length (run w .bits)
-near-end w place F h = omega (arith, bounded w, F .most)
-
-nil-of : (ys : List ℕ) → length ys ≡ 0 → ys ≡ []
-nil-of [] h = refl
-nil-of (y ∷ ys) h = absurd (omega arith)
-
--- what the first walk leaves of the slice
-unchanged : (w : Walk) (c : Cursor) (xs ys : List ℕ) (s : Step) → Walked w c [] s ys → ys ++ xs ≡ xs
-unchanged w c xs ys s h = ap (λ (l : List ℕ). l ++ xs) (nil-of ys (kept h))
-
--- what the first walk tells is the answer
-told : (t : Bool) (k : End) (bs : Bits) (place : ℕ) (xs : List ℕ) → forward place (length bs) ≡ place + length bs → place + length bs < 34359738360
-    → cond t (Refused Long) (reaches (ends k (forward place (length bs))) (length xs)) ≡ cond t (keep Long xs) (afterWalk k bs place xs) .answer
-told true k bs place xs e l = refl
-told false (refused r) bs place xs e l = refl
-told false done bs place xs e l = let n : counted (bytesTo (place + length bs)) ≡ bytesTo (place + length bs) = omega arith in rw (e, n) (go (ltb (length xs * 8) (place + length bs)))
-  where
-    go : (t : Bool) → cond t (Refused (Short (bytesTo (place + length bs)))) (Done (place + length bs))
-        ≡ cond t (keep (Short (bytesTo (place + length bs))) xs) (record { answer = Done (place + length bs); bytes = put xs place bs }) .answer
-    go true = refl
-    go false = refl
-
--- a refusal keeps the bytes, and what is done is stored
-left : (t : Bool) (k : End) (bs : Bits) (place : ℕ) (xs : List ℕ) {r : Refusal} → Refused r ≡ cond t (keep Long xs) (afterWalk k bs place xs) .answer → xs ≡ cond t (keep Long xs) (afterWalk k bs place xs) .bytes
-left true k bs place xs h = refl
-left false (refused r) bs place xs h = refl
-left false done bs place xs {r} h = go (ltb (length xs * 8) (place + length bs)) h
-  where
-    go : (t : Bool) → Refused r ≡ cond t (keep (Short (bytesTo (place + length bs))) xs) (record { answer = Done (place + length bs); bytes = put xs place bs }) .answer
-        → xs ≡ cond t (keep (Short (bytesTo (place + length bs))) xs) (record { answer = Done (place + length bs); bytes = put xs place bs }) .bytes
-    go true h = refl
-    go false h = let z : _≡_ {A = ℕ} 0 1 = cc in absurd (omega arith)
 
 stored : (t : Bool) (k : End) (bs : Bits) (place : ℕ) (xs : List ℕ) {n : ℕ} → Done n ≡ cond t (keep Long xs) (afterWalk k bs place xs) .answer → put xs place bs ≡ cond t (keep Long xs) (afterWalk k bs place xs) .bytes
 stored true k bs place xs h = let z : _≡_ {A = ℕ} 0 1 = cc in absurd (omega arith)
@@ -139,22 +97,84 @@ reads-back {c = c} C a place xs ys n g =
     let r = room (c .enc a) place xs ys n g in
     rw (r .place-is, r .content, put-front xs place (run (c .enc a) .bits) (r .inside)) (C .complete a (run (c .enc a) .bits) (from xs (place + length (run (c .enc a) .bits))) (C .own a (run (c .enc a) .bits) (r .walked)))
 
--- The two walks of a writer: over an empty slice first, which tells the answer, and then over the slice.
-module _ {w : Walk} {place : ℕ} {ys : List ℕ} {s : Step} where
-  answered : (xs : List ℕ) {a : Answer} → Few w → Fits w32 place → Walked w (at place) [] s ys → a ≡ verdict s (length (ys ++ xs)) → a ≡ written w place xs .answer
-  unfolding stepOf verdict written
-  answered xs F f g h = h ∙ rw (unchanged w (at place) xs ys s g, answer g) (told (ltb 65536 (length xs)) (run w .end) (run w .bits) place xs (near-end w place F (f .fits)) (omega (arith, bounded w, F .most, f .fits)))
+-- A walk that an array of n bytes holds, from any bit of its first byte on and with room for eight bytes more, so that a store of eight bytes at once never passes its end.
+pub record Few (n : ℕ) (w : Walk) : Type 0 where
+  pub most : bound w + 71 ≤ n * 8
+  pub size : n ≤ 72
 
-  -- the first walk ends it
-  pub ended : {xs : List ℕ} {a : Answer} {r : Refusal} → Few w → Fits w32 place → Walked w (at place) [] s ys → a ≡ verdict s (length (ys ++ xs)) → a ≡ Refused r → Writes w place xs a (ys ++ xs)
-  unfolding written
-  ended {xs} F f g h e =
-      let q = answered xs F f g h in
-      writes q (unchanged w (at place) xs ys s g ∙ left (ltb 65536 (length xs)) (run w .end) (run w .bits) place xs (sym e ∙ q))
+-- the bytes that the walk reached, back in the slice
+back : (xs ns : List ℕ) (place : ℕ) (bs : Bits) → length xs ≤ 65536 → place + length bs ≤ length xs * 8 → place % 8 + length bs ≤ length ns * 8
+    → take (place / 8) xs ++ (take (bytesTo (place % 8 + length bs)) (put (lent xs place ns) (place % 8) bs) ++ drop (bytesTo (place % 8 + length bs)) (drop (place / 8) xs)) ≡ put xs place bs
+unfolding lent
+back xs ns place bs h l m =
+    let i = place / 8 in
+    let r = place % 8 in
+    let k = bytesTo (r + length bs) in
+    let ds = drop i xs in
+    let ms = take (length ns) ds ++ drop (length xs - i) ns in
+    let p : place ≡ i * 8 + r = omega arith in
+    let a : take k ms ≡ take k ds =
+    take-append-le k (take (length ns) ds) (drop (length xs - i) ns) (omega (arith, length-take (length ns) ds, length-drop i xs)) ∙ take-take k (length ns) ds (omega arith) in
+    let b : take k (put ms r bs) ≡ take k (put ds r bs) = take-put k ms r bs ∙ ap (λ (zs : List ℕ). put zs r bs) a ∙ sym (take-put k ds r bs) in
+    let d : drop k ds ≡ drop k (put ds r bs) = sym (put-beyond ds r bs k (omega arith)) in
+    let e : take i xs ≡ take i (put xs place bs) = sym (take-put i xs place bs ∙ put-out (take i xs) place bs (omega (arith, length-take i xs))) in
+    let f : put ds r bs ≡ drop i (put xs place bs) = sym (ap (λ (j : ℕ). drop i (put xs j bs)) p ∙ drop-put i xs r bs (omega arith)) in
+    rw (b, d, take-append-drop k (put ds r bs), e, f) (take-append-drop i (put xs place bs))
 
-  -- there is room, and the second walk writes
-  pub filled : {xs us : List ℕ} {a : Answer} {n : ℕ} {t : Step} → Few w → Fits w32 place → Walked w (at place) [] s ys → a ≡ verdict s (length (ys ++ xs)) → a ≡ Done n → Walked w (at place) (ys ++ xs) t us → Writes w place xs a us
-  unfolding written
-  filled {xs} F f g h e d =
-      let q = answered xs F f g h in
-      writes q (bytes d ∙ ap (λ (z : List ℕ). put z place (run w .bits)) (unchanged w (at place) xs ys s g) ∙ stored (ltb 65536 (length xs)) (run w .end) (run w .bits) place xs (sym e ∙ q))
+-- what comes of a walk over the array is what the contract says
+agree : (k : End) (bs : Bits) (place : ℕ) (xs ns : List ℕ) → place % 8 + length bs ≤ length ns * 8
+    → cond (ltb 65536 (length xs)) (keep Long xs) (afterNear (ends k (place % 8 + length bs)) (place / 8) (put (lent xs place ns) (place % 8) bs) xs)
+    ≡ cond (ltb 65536 (length xs)) (keep Long xs) (afterWalk k bs place xs)
+agree (refused r) bs place xs ns m = refl
+agree done bs place xs ns m = rw (e, c) (go (ltb 65536 (length xs)) (ltb (length xs * 8) (place + length bs)) refl refl)
+  where
+    e : place / 8 * 8 + (place % 8 + length bs) ≡ place + length bs
+    e = omega arith
+
+    c : place / 8 + bytesTo (place % 8 + length bs) ≡ bytesTo (place + length bs)
+    c = omega arith
+
+    stands : List ℕ
+    stands = take (place / 8) xs ++ (take (bytesTo (place % 8 + length bs)) (put (lent xs place ns) (place % 8) bs) ++ drop (bytesTo (place % 8 + length bs)) (drop (place / 8) xs))
+
+    go : (t u : Bool) → ltb 65536 (length xs) ≡ t → ltb (length xs * 8) (place + length bs) ≡ u
+        → cond t (keep Long xs) (cond u (keep (Short (bytesTo (place + length bs))) xs) (record { answer = Done (place + length bs); bytes = stands }))
+        ≡ cond t (keep Long xs) (cond u (keep (Short (bytesTo (place + length bs))) xs) (record { answer = Done (place + length bs); bytes = put xs place bs }))
+    go true u h l = refl
+    go false true h l = refl
+    go false false h l =
+        ap (λ (ys : List ℕ). record { answer = Done (place + length bs); bytes = ys }) (back xs ns place bs (ltb-false 65536 (length xs) h) (ltb-false (length xs * 8) (place + length bs) l) m)
+
+lent-length : (xs : List ℕ) (place : ℕ) (ns : List ℕ) → length (lent xs place ns) ≡ length ns
+unfolding lent
+lent-length xs place ns =
+    omega (
+      arith,
+      length-append (take (length ns) (drop (place / 8) xs)) (drop (length xs - place / 8) ns),
+      length-take (length ns) (drop (place / 8) xs),
+      length-drop (place / 8) xs,
+      length-drop (length xs - place / 8) ns,
+    )
+
+-- One walk of a part, over the array, and what comes of it.
+module _ {n : ℕ} {w : Walk} (xs : List ℕ) (place : ℕ) {c : Cursor} {ms ns : List ℕ} {s : Step} (g : Walked w c ms s ns) (b : c ≡ record { at = place % 8 }) (m : ms ≡ lent xs place (replicate n 0)) (F : Few n w) where
+  bits-end : forward (place % 8) (length (run w .bits)) ≡ place % 8 + length (run w .bits)
+  bits-end = omega (arith, bounded w, F .most, F .size)
+
+  near-length : length ns ≡ n
+  near-length = kept g ∙ ap length m ∙ lent-length xs place (replicate n 0) ∙ length-replicate n 0
+
+  pub inside : Held s ns
+  unfolding stepOf
+  inside = held (rw (answer g, b, bits-end, near-length) (go (run w .end))) (omega (arith, near-length, F .size))
+    where
+      go : (k : End) → reach (ends k (place % 8 + length (run w .bits))) ≤ n * 8
+      go done = omega (arith, bounded w, F .most)
+      go (refused r) = omega arith
+
+  pub once : {a : Answer} {ys : List ℕ} → Settles s place ns xs a ys → Writes w place xs a ys
+  unfolding settled written stepOf
+  once (settles p q) =
+      let e = agree (run w .end) (run w .bits) place xs (replicate n 0) (omega (arith, bounded w, F .most, length-replicate {A = ℕ} n 0)) in
+      let f : settled s place ns xs ≡ written w place xs = rw (bytes g, m, answer g, b, bits-end) e in
+      writes (p ∙ ap (λ (u : Written). u .answer) f) (q ∙ ap (λ (u : Written). u .bytes) f)

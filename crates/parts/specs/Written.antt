@@ -1,13 +1,13 @@
 -- What the writer of a part answers, and what it leaves in the slice that it is lent: for every walk, every place and every slice.
 use mathlib.Core.Path.{_≡_}
-use mathlib.Core.List.{List}
+use mathlib.Core.List.{List, _++_}
 use mathlib.Core.Bool.{cond}
-use Prim.Native.Nat.{ℕ, _+_, _*_, _/_}
+use Prim.Native.Nat.{ℕ, _+_, _-_, _*_, _/_, _≤_}
 use lib.Dec.{ltb}
-use lib.ListN.{length}
+use lib.ListN.{length, take, drop}
 use Rattle.bits.specs.Bits.{Bits, put}
 use Rattle.bits.specs.Walk.{Walk, End, done, refused, run}
-use Rattle.bits.specs.Answers.{numbered, counted}
+use Rattle.bits.specs.Answers.{numbered}
 use Rattle.bits.specs.declared.answer.Numbered.{Numbered}
 use Rattle.bits.specs.declared.answer.Refusal.{Refusal}
 use Rattle.bits.specs.declared.answer.Refusal.the-variants.{Short, Long}
@@ -50,10 +50,29 @@ written w place xs = cond (ltb 65536 (length xs)) (keep Long xs) (afterWalk (run
 pub data Writes (w : Walk) (place : ℕ) (xs : List ℕ) (r : Answer) (ys : List ℕ) : Type 0 where
   writes : r ≡ written w place xs .answer → ys ≡ written w place xs .bytes → Writes w place xs r ys
 
--- What a first walk over an empty slice tells, for a slice of n bytes: there is room up to its end, or the refusal.
-abbrev pub reaches : Step → ℕ → Answer
-reaches (S.Refused r) n = Refused r
-reaches (S.Next c) n = cond (ltb (n * 8) (c .at)) (Refused (Short (counted (bytesTo (c .at))))) (Done (c .at))
+-- A part is walked over an array, which is lent the bytes of the slice from that of the place on, as many as both have, and keeps its own behind them.
+unfoldable pub lent : List ℕ → ℕ → List ℕ → List ℕ
+lent xs place ns = take (length ns) (drop (place / 8) xs) ++ drop (length xs - place / 8) ns
 
-unfoldable pub verdict : Step → ℕ → Answer
-verdict s n = cond (ltb 65536 n) (Refused Long) (reaches s n)
+-- where a walk ended
+abbrev pub reach : Step → ℕ
+reach (S.Refused r) = 0
+reach (S.Next c) = c .at
+
+-- the walk ended in the array, which is a small one
+pub data Held (s : Step) (ns : List ℕ) : Type 0 where
+  held : reach s ≤ length ns * 8 → length ns ≤ 65536 → Held s ns
+
+-- After a walk that left ns in the array: the bytes that it reached go back into the slice, from the i-th on.
+abbrev pub afterNear : Step → ℕ → List ℕ → List ℕ → Written
+afterNear (S.Refused r) i ns xs = keep r xs
+afterNear (S.Next c) i ns xs =
+    cond (ltb (length xs * 8) (i * 8 + c .at))
+    (keep (Short (i + bytesTo (c .at))) xs)
+    (record { answer = Done (i * 8 + c .at); bytes = take i xs ++ (take (bytesTo (c .at)) ns ++ drop (bytesTo (c .at)) (drop i xs)) })
+
+unfoldable pub settled : Step → ℕ → List ℕ → List ℕ → Written
+settled s place ns xs = cond (ltb 65536 (length xs)) (keep Long xs) (afterNear s (place / 8) ns xs)
+
+pub data Settles (s : Step) (place : ℕ) (ns xs : List ℕ) (r : Answer) (ys : List ℕ) : Type 0 where
+  settles : r ≡ settled s place ns xs .answer → ys ≡ settled s place ns xs .bytes → Settles s place ns xs r ys

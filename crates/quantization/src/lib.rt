@@ -13,7 +13,9 @@ use bits::element::QM_V;
 use bits::element::QM_Y;
 use parts::answer::Answer;
 use parts::inferred::inferred_delta;
-use parts::place::verdict;
+use parts::place::lend;
+use parts::place::settle;
+use parts::place::start;
 use writer::demand;
 use writer::f;
 use writer::flag;
@@ -204,12 +206,8 @@ pub fn write_quantization_params(
 ) -> Answer
     ensures { λ r. ⌜ Writes (quantization-params k .enc q) place (now (out .entry)) r (now (out .exit)) ⌝ }
 {
-    let start = Cursor { at: place as usize };
-    let s = quantization_params(&mut out[0..0], start, q, k);
-    let answer = verdict(s, out.len());
-    let Answer::Done(_) = answer else {
-        return answer;
-    };
-    quantization_params(out, start, q, k);
-    answer
+    let mut near = [0u8; 24];
+    lend(out, place, &mut near);
+    let s = quantization_params(&mut near, start(place), q, k);
+    settle(s, place, &near, out)
 }

@@ -11,7 +11,9 @@ use parts::answer::Answer;
 use parts::inferred::all;
 use parts::inferred::any;
 use parts::inferred::inferred_flag;
-use parts::place::verdict;
+use parts::place::lend;
+use parts::place::settle;
+use parts::place::start;
 use writer::demand;
 use writer::f;
 use writer::flag;
@@ -276,12 +278,8 @@ pub fn write_lr_params(
 ) -> Answer
     ensures { λ r. ⌜ Writes (lr-params k .enc p) place (now (out .entry)) r (now (out .exit)) ⌝ }
 {
-    let start = Cursor { at: place as usize };
-    let s = lr_params(&mut out[0..0], start, p, k);
-    let answer = verdict(s, out.len());
-    let Answer::Done(_) = answer else {
-        return answer;
-    };
-    lr_params(out, start, p, k);
-    answer
+    let mut near = [0u8; 16];
+    lend(out, place, &mut near);
+    let s = lr_params(&mut near, start(place), p, k);
+    settle(s, place, &near, out)
 }

@@ -8,7 +8,9 @@ use bits::element::SEGMENTATION_UPDATE_DATA;
 use bits::element::SEGMENTATION_UPDATE_MAP;
 use parts::answer::Answer;
 use parts::inferred::inferred_flag;
-use parts::place::verdict;
+use parts::place::lend;
+use parts::place::settle;
+use parts::place::start;
 use writer::demand;
 use writer::f;
 use writer::flag;
@@ -283,12 +285,8 @@ pub fn write_segmentation_params(
 ) -> Answer
     ensures { λ r. ⌜ Writes (segmentation-params k .enc p) place (now (out .entry)) r (now (out .exit)) ⌝ }
 {
-    let start = Cursor { at: place as usize };
-    let s = segmentation_params(&mut out[0..0], start, p, k);
-    let answer = verdict(s, out.len());
-    let Answer::Done(_) = answer else {
-        return answer;
-    };
-    segmentation_params(out, start, p, k);
-    answer
+    let mut near = [0u8; 64];
+    lend(out, place, &mut near);
+    let s = segmentation_params(&mut near, start(place), p, k);
+    settle(s, place, &near, out)
 }

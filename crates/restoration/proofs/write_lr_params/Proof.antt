@@ -1,4 +1,4 @@
--- Two walks: `Writing` has the laws.
+-- One walk, over an array: `Writing` has the laws.
 use borrow.Author.Needs.{needs}
 use lib.Dec.{lit≤}
 use Rattle.bits.specs.Walk.{bound}
@@ -6,18 +6,18 @@ use Rattle.bits.specs.Codec.{_▷_, choose, checked, recode, merged, via, f, fl
 use Rattle.restoration.specs.Restoration.{large-shift, small-shift, unit-shift, uv-shift, shifts, uses, kinds, three-planes, one-kind, one-plane, no-kinds, no-planes, lr-table, lr-params}
 use Rattle.restoration.specs.declared.LoopRestorationParams.{LoopRestorationParams}
 use Rattle.restoration.specs.declared.LoopRestorationContext.{LoopRestorationContext}
-use Rattle.parts.proofs.Writing.{Few, ended, filled}
+use Rattle.parts.proofs.Writing.{Few, inside, once}
 use Rattle.restoration.proofs.write_lr_params.Statement.{statement}
 use Rattle.restoration.proofs.write_lr_params.Tie as tie
 
-few : (k : LoopRestorationContext) (p : LoopRestorationParams) → Few (lr-params k .enc p)
+few : (k : LoopRestorationContext) (p : LoopRestorationParams) → Few 16 (lr-params k .enc p)
 unfolding bound large-shift small-shift unit-shift uv-shift shifts uses kinds three-planes one-kind one-plane no-kinds no-planes lr-table lr-params _▷_ choose checked recode merged via f flag absent inferred inferredFlag
-few k p = record { most = lit≤ tt }
+few k p = record { most = lit≤ tt; size = lit≤ tt }
 
 pub write-lr-params-spec : {M : Type 1} → statement M
 write-lr-params-spec =
     tie.close
     (tie.spec
-    (λ c. search needs) (λ c. search needs) (λ c. search needs) (λ c κs. search needs) (λ c κs. search needs)
-    (λ c. search needs) (λ c. search needs) (λ c. search needs) (λ c. search (ended, few))
-    (λ c κs. search needs) (λ c. search needs) (λ c. search (filled, few)))
+    (λ c. search needs) (λ c κs. search needs)
+    (λ c. search needs) (λ c κs. search needs) (λ c κs. search needs)
+    (λ c. search needs) (λ c κs. search (inside, few)) (λ c. search needs) (λ c. search (once, few)))

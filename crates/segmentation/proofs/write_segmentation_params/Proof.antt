@@ -1,4 +1,4 @@
--- Two walks: `Writing` has the laws.
+-- One walk, over an array: `Writing` has the laws.
 use borrow.Author.Needs.{needs}
 use lib.Dec.{lit≤}
 use Rattle.bits.specs.Walk.{bound}
@@ -8,18 +8,18 @@ use Rattle.parts.specs.Codes.{inferredSigned, natural, trimmed}
 use Rattle.segmentation.specs.Segmentation.{signed-value, unsigned-value, feature-value, feature, features, no-flags, no-data, no-features, features-if, temporal-update, coded-updates, inferred-updates, with-reference, without-reference, enabled-params, segmentation-table, segmentation-params}
 use Rattle.segmentation.specs.declared.SegmentationParams.{SegmentationParams}
 use Rattle.segmentation.specs.declared.SegmentationContext.{SegmentationContext}
-use Rattle.parts.proofs.Writing.{Few, ended, filled}
+use Rattle.parts.proofs.Writing.{Few, inside, once}
 use Rattle.segmentation.proofs.write_segmentation_params.Statement.{statement}
 use Rattle.segmentation.proofs.write_segmentation_params.Tie as tie
 
-few : (k : SegmentationContext) (p : SegmentationParams) → Few (segmentation-params k .enc p)
+few : (k : SegmentationContext) (p : SegmentationParams) → Few 64 (segmentation-params k .enc p)
 unfolding bound signed-value unsigned-value feature-value feature features no-flags no-data no-features features-if temporal-update coded-updates inferred-updates with-reference without-reference enabled-params segmentation-table segmentation-params inferredSigned natural trimmed su _▷_ choose recode via array f flag absent inferredFlag
-few k p = record { most = lit≤ tt }
+few k p = record { most = lit≤ tt; size = lit≤ tt }
 
 pub write-segmentation-params-spec : {M : Type 1} → statement M
 write-segmentation-params-spec =
     tie.close
     (tie.spec
-    (λ c. search needs) (λ c. search needs) (λ c. search needs) (λ c κs. search needs) (λ c κs. search needs)
-    (λ c. search needs) (λ c. search needs) (λ c. search needs) (λ c. search (ended, few))
-    (λ c κs. search needs) (λ c. search needs) (λ c. search (filled, few)))
+    (λ c. search needs) (λ c κs. search needs)
+    (λ c. search needs) (λ c κs. search needs) (λ c κs. search needs)
+    (λ c. search needs) (λ c κs. search (inside, few)) (λ c. search needs) (λ c. search (once, few)))
