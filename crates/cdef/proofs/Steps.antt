@@ -2,13 +2,14 @@
 use mathlib.Core.Path.{_≡_, refl, sym, ap, _∙_}
 use mathlib.Core.List.{List}
 use mathlib.Core.Logic.{⊎-elim}
-use mathlib.Core.Bool.{false, not}
-use Prim.Native.Nat.{ℕ, zero, suc, _+_, _-_, _^_, _≤_, _<_, min}
+use mathlib.Core.Bool.{Bool, true, false, cond, not}
+use Prim.Native.Nat.{ℕ, zero, suc, _+_, _-_, _*_, _^_, _≤_, _<_, min}
 use native.Mathlib.Omega.{arith}
 use lib.ListN.{getD}
 use lib.Dec.{eqb, ltb, lit<}
-use borrow.Author.Tests.{lt-ltb, le-ltb, eq-eqb, ne-eqb}
-use Rattle.bits.specs.Walk.{none, field, either, _⊕_, run, Walked}
+use borrow.Author.Tests.{lt-ltb, le-ltb, eq-eqb, ne-eqb, ltb-true, eqb-true}
+use Rattle.bits.specs.Bits.{toBits}
+use Rattle.bits.specs.Walk.{none, field, either, _⊕_, wrote, join, run, Walked}
 use Rattle.bits.specs.Codec.{Codec, f, absent, choose, checked, recode, via, array, uncons, _▷_}
 use Rattle.bits.specs.Elements.{cdef-y-pri-strength, cdef-y-sec-strength, cdef-uv-pri-strength, cdef-uv-sec-strength, cdef-damping}
 use Rattle.bits.specs.declared.answer.Cursor.{Cursor}
@@ -19,9 +20,10 @@ use Rattle.bits.proofs.Walking.{as-run, field-refused, halt-here, held-then, br
 use Rattle.bits.proofs.Storing.{below-or}
 use Rattle.bits.proofs.Loops.{array-first}
 use Rattle.cdef.specs.Cdef as table
-use Rattle.cdef.specs.Cdef.{damping, secondary, strength, strengths, Strengths, each-strength, no-strength, no-place, no-strengths, strengths-out}
+use Rattle.cdef.specs.Cdef.{damping, swapped, secondary, strength, packed, strengths, Strengths, each-strength, no-strength, no-place, no-strengths, strengths-out}
 use Rattle.cdef.specs.declared.CdefParams.{CdefParams}
 use Rattle.parts.proofs.Pairs.{zip-at}
+use Rattle.parts.proofs.Packing.{field-run, both-run, by-field}
 
 module _ (v : ℕ) {c : Cursor} {xs : List ℕ} where
   pub damping-low : v < 3 → Walked (damping .enc v) c xs (Refused (Unfit cdef-damping 0)) xs
@@ -56,6 +58,26 @@ at-place : (p : CdefParams) (i : ℕ) → getD (strengths-out p) i table.none �
 unfolding luma chroma
 at-place p i = zip-at (0, 0) (0, 0) _ _ i ∙ rw (zip-at 0 0 (p .«cdef_y_pri_strength») (p .«cdef_y_sec_strength») i, zip-at 0 0 (p .«cdef_uv_pri_strength») (p .«cdef_uv_sec_strength») i)
 
+-- the bits of a strength
+secondary-run : (e i v w : ℕ) → (v ≡ 3 → ⊥) → swapped v ≡ w → w < 4 → run (secondary e i .enc v) ≡ wrote (toBits 2 w)
+unfolding secondary checked recode f run join
+secondary-run e i v w h q l = rw (ne-eqb v 3 h) (rw (ne-eqb v 3 h) at (ap (λ (x : ℕ). run (field 2 x e i)) q ∙ field-run 2 w e i l))
+
+packed-run : (pe se i p s r : ℕ) → r ≡ packed p s → r < 64 → run (strength pe se i .enc (p, s)) ≡ wrote (toBits 6 r)
+unfolding packed strength _▷_ f run
+packed-run pe se i p s r e h = go (ltb p 16) (ltb s 3) (eqb s 4) refl refl refl e
+  where
+    parts : (v : ℕ) → p < 16 → (s ≡ 3 → ⊥) → swapped s ≡ v → v < 4 → r ≡ p * 4 + v → run (strength pe se i .enc (p, s)) ≡ wrote (toBits 6 r)
+    parts v a b q l k = rw k (both-run 4 2 p v (field-run 4 p pe i a) (secondary-run se i s v b q l) l)
+
+    go : (t u v : Bool) → ltb p 16 ≡ t → ltb s 3 ≡ u → eqb s 4 ≡ v → r ≡ cond t (cond u (p * 4 + s) (cond v (p * 4 + 3) 64)) 64 → run (strength pe se i .enc (p, s)) ≡ wrote (toBits 6 r)
+    go true true v a b d k =
+        let l = ltb-true s 3 b in
+        parts s (ltb-true p 16 a) (λ n. omega arith) (rw (ne-eqb s 4 (λ n. omega arith), ne-eqb s 3 (λ n. omega arith))) (omega arith) k
+    go true false true a b d k = let n = eqb-true s 4 d in parts 3 (ltb-true p 16 a) (λ m. omega arith) (rw n) (omega arith) k
+    go true false false a b d k = absurd (omega arith)
+    go false u v a b d k = absurd (omega arith)
+
 module _ (p : CdefParams) {c : Cursor} {xs ys : List ℕ} {s : Step} where
   pub strengths-by : (planes i : ℕ)
       → Walked (strength cdef-y-pri-strength cdef-y-sec-strength i .enc (getD (p .«cdef_y_pri_strength») i 0, getD (p .«cdef_y_sec_strength») i 0)
@@ -63,6 +85,15 @@ module _ (p : CdefParams) {c : Cursor} {xs ys : List ℕ} {s : Step} where
       → Walked (strengths planes i .enc (getD (strengths-out p) i table.none)) c xs s ys
   unfolding strengths _▷_ choose absent luma chroma
   strengths-by planes i g = rw (at-place p i) g
+
+  -- all of a place in one field
+  pub strengths-packed : (planes i y uv : ℕ) {e j : ℕ} → (planes ≡ 1 → ⊥) → y ≡ packed (getD (p .«cdef_y_pri_strength») i 0) (getD (p .«cdef_y_sec_strength») i 0) → uv ≡ packed (getD (p .«cdef_uv_pri_strength») i 0) (getD (p .«cdef_uv_sec_strength») i 0)
+      → y < 64 → uv < 64 → Walked (field 12 (y * 64 + uv) e j) c xs s ys → Walked (strengths planes i .enc (getD (strengths-out p) i table.none)) c xs s ys
+  unfolding run
+  strengths-packed planes i y uv h a b k l g =
+      let x = packed-run cdef-y-pri-strength cdef-y-sec-strength i (getD (p .«cdef_y_pri_strength») i 0) (getD (p .«cdef_y_sec_strength») i 0) y a k in
+      let z = packed-run cdef-uv-pri-strength cdef-uv-sec-strength i (getD (p .«cdef_uv_pri_strength») i 0) (getD (p .«cdef_uv_sec_strength») i 0) uv b l in
+      strengths-by planes i (by-field 12 (y * 64 + uv) (both-run 6 6 y uv x (rw (ne-eqb planes 1 h) z) l) (omega arith) g)
 
   pub no-strengths-by :
       Walked (no-strength cdef-y-pri-strength cdef-y-sec-strength .enc (getD (p .«cdef_y_pri_strength») 0 0, getD (p .«cdef_y_sec_strength») 0 0)

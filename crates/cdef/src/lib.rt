@@ -20,7 +20,7 @@ ghost use Prim.Native.Nat.{_≤_, _<_, _^_, min};
 ghost use lib.ListN.{getD};
 ghost use Rattle.bits.specs.Walk.{Walked};
 ghost use Rattle.parts.specs.Written.{Writes};
-ghost use Rattle.cdef.specs.Cdef.{damping, secondary, strength, strengths, each-strength, none, strengths-out, no-strength, no-strengths, cdef-on, cdef-off, cdef-params};
+ghost use Rattle.cdef.specs.Cdef.{damping, secondary, strength, packed, strengths, each-strength, none, strengths-out, no-strength, no-strengths, cdef-on, cdef-off, cdef-params};
 
 pub struct CdefParams {
     pub cdef_bits: u32,
@@ -71,7 +71,23 @@ fn strength(out: &mut [u8], c: Cursor, p: u32, s: u32, pe: u8, se: u8, i: u8) ->
     secondary(out, c, s, se, i)
 }
 
-fn strengths(out: &mut [u8], c: Cursor, planes: u32, p: CdefParams, i: usize) -> Step
+// The six bits of a primary strength p and a secondary strength s, or 64 where one of them is refused.
+fn packed(p: u32, s: u32) -> u32
+    ensures { λ r. ⌜ r ≡ packed p s ⌝ }
+{
+    if p < 16 {
+        if s < 3 {
+            return p * 4 + s;
+        }
+        if s == 4 {
+            return p * 4 + 3;
+        }
+    }
+    64
+}
+
+// Field by field.
+fn strengths_apart(out: &mut [u8], c: Cursor, planes: u32, p: CdefParams, i: usize) -> Step
     requires { ⌜ i < 8 ⌝ }
     ensures { λ s. ⌜ Walked (strengths planes i .enc (getD (strengths-out p) i none)) c (now (out .entry)) s (now (out .exit)) ⌝ }
 {
@@ -99,6 +115,22 @@ fn strengths(out: &mut [u8], c: Cursor, planes: u32, p: CdefParams, i: usize) ->
         CDEF_UV_SEC_STRENGTH,
         i as u8,
     )
+}
+
+fn strengths(out: &mut [u8], c: Cursor, planes: u32, p: CdefParams, i: usize) -> Step
+    requires { ⌜ i < 8 ⌝ }
+    ensures { λ s. ⌜ Walked (strengths planes i .enc (getD (strengths-out p) i none)) c (now (out .entry)) s (now (out .exit)) ⌝ }
+{
+    let y = packed(p.cdef_y_pri_strength[i], p.cdef_y_sec_strength[i]);
+    let uv = packed(p.cdef_uv_pri_strength[i], p.cdef_uv_sec_strength[i]);
+    if planes != 1 {
+        if y < 64 {
+            if uv < 64 {
+                return f(out, c, 12, y * 64 + uv, CDEF_Y_PRI_STRENGTH, i as u8);
+            }
+        }
+    }
+    strengths_apart(out, c, planes, p, i)
 }
 
 fn each_strength(out: &mut [u8], c: Cursor, planes: u32, n: usize, p: CdefParams) -> Step

@@ -2,4 +2,5 @@ pub mod Signs
 pub mod Pairs
 pub mod Flags
 pub mod Writing
+pub mod Packing
 pub mod Laws

@@ -1,6 +1,5 @@
 use borrow.Author.Needs.{needs}
-use Rattle.bits.proofs.Walking.{walk}
-use Rattle.cdef.proofs.Steps.{strengths-by}
+use Rattle.cdef.proofs.Steps.{strengths-packed}
 use Rattle.cdef.proofs.strengths.Statement.{statement}
 use Rattle.cdef.proofs.strengths.Tie as tie
 
@@ -8,6 +7,7 @@ pub strengths-spec : {M : Type 1} → statement M
 strengths-spec =
     tie.close
     (tie.spec
-    (λ c. search needs) (λ c. search needs) (λ c. search needs) (λ c. search needs) (λ c. search needs) (λ c κs. search needs) (λ c. search needs) (λ c. search needs) (λ c. search needs) (λ c. search (walk, strengths-by) depth 14)
-    (λ c. search needs) (λ c. search (walk, strengths-by) depth 14)
-    (λ c. search needs) (λ c. search needs) (λ c. search needs) (λ c. search needs) (λ c. search needs) (λ c κs. search needs) (λ c. search needs) (λ c. search (walk, strengths-by) depth 14))
+    (λ c. search needs) (λ c. search needs) (λ c. search needs) (λ c. search needs) (λ c κs. search needs)
+    (λ c. search needs) (λ c. search needs) (λ c. search needs) (λ c. search needs) (λ c κs. search needs)
+    (λ c. search needs) (λ c. search needs) (λ c. search needs) (λ c κs. search needs) (λ c. search needs) (λ c. search strengths-packed)
+    (λ c κs. search needs) (λ c. search needs) (λ c. search needs))

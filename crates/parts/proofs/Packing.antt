@@ -1,0 +1,41 @@
+-- Fields one behind another, stored as one.
+use mathlib.Core.Path.{_≡_, sym, ap, _∙_}
+use mathlib.Core.List.{List, _∷_, _++_}
+use Prim.Native.Nat.{ℕ, zero, suc, _+_, _*_, _^_, _/_, _%_, _<_}
+use native.Mathlib.Omega.{arith}
+use native.Mathlib.Nat.{zero-add, suc-add, add-comm}
+use lib.Arith.{digits-div, digits-mod}
+use lib.Dec.{eqb}
+use lib.Pow.{shr-shr}
+use borrow.Author.Tests.{lt-ltb}
+use Rattle.bits.specs.Bits.{Bits, bitAt, toBits}
+use Rattle.bits.specs.Walk.{Walk, field, Out, wrote, join, run, Walked}
+use Rattle.bits.specs.declared.answer.Cursor.{Cursor}
+use Rattle.bits.specs.declared.answer.Step.{Step}
+use Rattle.bits.proofs.Laws.{joined}
+use Rattle.bits.proofs.Numbers.{toBits-mod}
+use Rattle.bits.proofs.Walking.{as-run}
+
+bits-split : (k m v : ℕ) → toBits (k + m) v ≡ toBits k (v / 2 ^ m) ++ toBits m v
+unfolding toBits bitAt
+bits-split zero m v = rw zero-add
+bits-split (suc k) m v = rw (suc-add, shr-shr, add-comm m k) (ap (λ (l : Bits). eqb (v / 2 ^ (k + m) % 2) 1 ∷ l) (bits-split k m v))
+
+-- a number x of m bits behind another
+bits-join : (k m v x : ℕ) → x < 2 ^ m → toBits (k + m) (v * 2 ^ m + x) ≡ toBits k v ++ toBits m x
+bits-join k m v x h =
+    let t : toBits m (v * 2 ^ m + x) ≡ toBits m x = sym (toBits-mod m m (v * 2 ^ m + x) (omega arith)) ∙ ap (toBits m) (digits-mod v h) in
+    bits-split k m (v * 2 ^ m + x) ∙ rw (digits-div v h, t)
+
+-- a field that fits
+pub field-run : (n v e i : ℕ) → v < 2 ^ n → run (field n v e i) ≡ wrote (toBits n v)
+unfolding run
+field-run n v e i h = rw (lt-ltb v (2 ^ n) h)
+
+-- two walks that write a number each
+pub both-run : (n m a b : ℕ) {o p : Out} → o ≡ wrote (toBits n a) → p ≡ wrote (toBits m b) → b < 2 ^ m → join o p ≡ wrote (toBits (n + m) (a * 2 ^ m + b))
+both-run n m a b h k l = joined h k ∙ ap (λ (x : Bits). wrote x) (sym (bits-join n m a b l))
+
+-- a walk that writes a number, by one field
+pub by-field : (n a : ℕ) {e i : ℕ} {w : Walk} {c : Cursor} {xs ys : List ℕ} {s : Step} → run w ≡ wrote (toBits n a) → a < 2 ^ n → Walked (field n a e i) c xs s ys → Walked w c xs s ys
+by-field n a {e} {i} h l g = as-run (field-run n a e i l ∙ sym h) g
