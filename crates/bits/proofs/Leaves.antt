@@ -1,14 +1,15 @@
 -- The leaves keep the laws: f(n) once over n, a flag, a field that is not there, an inferred one.
 use mathlib.Core.Path.{_≡_, refl, sym, _∙_, ap, subst}
-use mathlib.Core.List.{[], _∷_, _++_}
+use mathlib.Core.List.{List, [], _∷_, _++_}
 use mathlib.Core.Bool.{Bool, true, false, cond}
 use Prim.Native.Nat.{ℕ, zero, suc, _+_, _^_, _<_}
-use lib.ListN.{length}
+use native.Mathlib.Omega.{arith}
+use lib.ListN.{length, getD}
 use lib.Dec.{eqb, ltb}
 use borrow.Author.Tests.{lt-ltb, ltb-true, eq-eqb, eqb-true}
 use Rattle.bits.specs.Bits.{Bits, toBits, fromBits}
 use Rattle.bits.specs.Walk.{Walk, field, wrote, refuses, run}
-use Rattle.bits.specs.Codec.{Codec, Got, got, stop, andThen, single, takeBits, f, takeFlag, flag, absent, inferred, inferredFlag, sameFlag, zeros, readZeros, array, uncons, Nil, nil, select, _▷_}
+use Rattle.bits.specs.Codec.{Codec, Got, got, stop, andThen, single, takeBits, f, takeFlag, flag, absent, inferred, inferredFlag, sameFlag, zeros, readZeros, array, uncons, Nil, nil, choose, select, via, _▷_}
 use Rattle.bits.proofs.Numbers.{length-toBits, from-to-fits, to-from, from-lt}
 use Rattle.bits.specs.Lawful.{Grade, Lawful, same}
 use Rattle.bits.specs.declared.answer.Refusal.the-variants.{Inconsistent, Unfit, Reserved}
@@ -146,6 +147,27 @@ unfolding array
 array-law z item I zero i n = absent-law []
 array-law z item I (suc m) i n =
     via-law (uncons z) (λ p. p .0 ∷ p .1) (seq-law (choose-law (ltb i n) (I i) (absent-law z)) λ _. array-law z item I m (suc i) n) (λ a. refl)
+
+-- what an array codes goes by its items below n
+module _ {A : Type 0} (z : A) (item : ℕ → Codec A) (n : ℕ) where
+  first-is : (xs : List A) → uncons z xs .0 ≡ getD xs 0 z
+  first-is [] = refl
+  first-is (x ∷ xs) = refl
+
+  rest-is : (xs : List A) (j : ℕ) → getD (uncons z xs .1) j z ≡ getD xs (suc j) z
+  rest-is [] j = refl
+  rest-is (x ∷ xs) j = refl
+
+  pub array-coded : (m i : ℕ) (xs ys : List A) → ((j : ℕ) → j < m → i + j < n → getD xs j z ≡ getD ys j z) → array z item m i n .coded xs ≡ array z item m i n .coded ys
+  unfolding array via _▷_ choose absent
+  array-coded zero i xs ys h = refl
+  array-coded (suc m) i xs ys h =
+      let rest = array-coded m (suc i) (uncons z xs .1) (uncons z ys .1) (λ j k l. rest-is xs j ∙ h (suc j) (omega arith) (omega arith) ∙ sym (rest-is ys j)) in
+      λ k. first (ltb i n) refl k ∷ rest k
+    where
+      first : (t : Bool) → ltb i n ≡ t → cond t (item i .coded (uncons z xs .0)) z ≡ cond t (item i .coded (uncons z ys .0)) z
+      first true e = ap (item i .coded) (first-is xs ∙ h 0 (omega arith) (omega (arith, ltb-true i n e)) ∙ sym (first-is ys))
+      first false e = refl
 
 -- What is coded whole.
 pub f-all : (n e i a : ℕ) → f n e i .coded a ≡ a

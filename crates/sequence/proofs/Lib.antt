@@ -1,5 +1,6 @@
 pub mod Conditions
 pub mod Laws
+pub mod Unused
 pub mod Counts
 pub mod Arrays
 pub mod Answering
