@@ -29,6 +29,7 @@ use Rattle.cdef.specs.Cdef as cdef
 use Rattle.restoration.specs.Restoration as restoration
 use Rattle.sequence.specs.declared.record.SequenceHeaderObu.{SequenceHeaderObu}
 use Rattle.sequence.specs.Sequence.{sequence-header}
+use Rattle.sequence.proofs.Answering.{same-answer}
 use Rattle.sequence_reader.specs.declared.read.Part.{Part}
 use Rattle.sequence_reader.specs.declared.read.SequenceAnswer.{SequenceAnswer}
 use Rattle.sequence_reader.specs.declared.read.Outcome.{Outcome}
@@ -52,8 +53,8 @@ part-crosses e (part.writes a b) k h = rw (← e) (rw (h, k, a, b))
 
 module _ {out end l : List ℕ} {n : Numbered} (told : l ≡ answer-of n) where
   module _ {r : O.Answer} (is : n ≡ obu.answerNumbers r) where
-    pub sequence-crosses : (xs : List ℕ) {h : SequenceHeaderObu} → h ≡ record-of xs → obu.Writes (sequence-header .enc h) out r end → lent l end ≡ wrote-obu (sequence-header .enc (record-of xs)) out
-    sequence-crosses xs e w = obu-crosses (ap (sequence-header .enc) e) w is told
+    pub sequence-crosses : (xs : List ℕ) (h : SequenceHeaderObu) → sequence-header .coded h ≡ sequence-header .coded (record-of xs) → obu.Writes (sequence-header .enc h) out r end → lent l end ≡ wrote-obu (sequence-header .enc (record-of xs)) out
+    sequence-crosses xs h e w = let s = same-answer h (record-of xs) e w (obu.writes refl refl) in obu-crosses refl (obu.writes (s .0) (s .1)) is told
 
     pub delimiter-crosses : (xs : List ℕ) {h : ObuHeader} → h ≡ header-of xs → obu.Writes (temporal-delimiter h) out r end → lent l end ≡ wrote-obu (temporal-delimiter (header-of xs)) out
     delimiter-crosses xs e w = obu-crosses (ap temporal-delimiter e) w is told

@@ -1,11 +1,13 @@
 -- An array that is filled from its first place on.
 use mathlib.Core.Path.{_≡_, refl, sym, ap, _∙_}
 use mathlib.Core.List.{List, [], _∷_, _++_, append-assoc, append-nil}
-use Prim.Native.Nat.{ℕ, zero, suc, _+_, _*_, _<_, _≤_}
+use mathlib.Core.Logic.{⊎-elim}
+use Prim.Native.Nat.{ℕ, zero, suc, _+_, _*_, _<_, _≤_, min}
 use native.Mathlib.Omega.{arith}
 use native.Mathlib.Numerals.{add-one}
-use lib.ListN.{length, replicate, set, length-append, length-replicate}
-use lib.Seq.{sets, set-at, length-sets}
+use lib.ListN.{length, replicate, set, take, getD, length-append, length-replicate, List·getD-append}
+use lib.Seq.{sets, set-at, length-sets, take-at, getD-append-add}
+use Rattle.bits.proofs.Storing.{below-or}
 use Rattle.boundary.specs.Numbers.{joined, each}
 
 -- an array of m places begins with `front`
@@ -47,6 +49,24 @@ length-joined k (suc n) f h = rw (length-append, h n, length-joined k n f h) (om
 length-each : {A : Type 0} (f : ℕ → A) (i : ℕ) → length (each i f) ≡ i
 length-each f i = length-joined 1 i (λ j. f j ∷ []) (λ j. refl) ∙ omega arith
 
+pub getD-each : {A : Type 0} (f : ℕ → A) (n i : ℕ) (z : A) → i < n → getD (each n f) i z ≡ f i
+unfolding joined
+getD-each f zero i z h = absurd (omega arith)
+getD-each f (suc n) i z h = ⊎-elim
+    (λ l. let k : i < length (each n f) = rw (length-each f n) l in List·getD-append (each n f) (f n ∷ []) z i k ∙ getD-each f n i z l)
+    (λ l. let e : length (each n f) + 0 ≡ i = omega (arith, length-each f n) in
+    let k : n ≡ i = omega arith in
+    (rw e at (getD-append-add (each n f) (f n ∷ []) 0 z)) ∙ ap f k)
+    (below-or i n)
+
+take-each : {A : Type 0} (f : ℕ → A) (i k : ℕ) (rest : List A) → k ≤ i → take k (each i f ++ rest) ≡ each k f
+unfolding joined
+take-each f zero k rest h = let e : k ≡ 0 = omega arith in rw e
+take-each f (suc i) k rest h = ⊎-elim
+    (λ l. rw (append-assoc (each i f) (f i ∷ []) rest) (take-each f i k (f i ∷ rest) (omega arith)))
+    (λ l. let e : k ≡ suc i = omega arith in rw e (take-at (each (suc i) f) rest (suc i) (length-each f (suc i))))
+    (below-or k (suc i))
+
 -- a loop over the m places of an array: those below i hold f's values
 pub data Filled {A : Type 0} (f : ℕ → A) (m : ℕ) (list : List A) (i : ℕ) : Type 0 where
   filled : Begun (each i f) m list → Filled f m list i
@@ -62,6 +82,14 @@ module _ {A : Type 0} {f : ℕ → A} {m : ℕ} {list : List A} {i : ℕ} where
 
   pub filled-has : Filled f m list i → i < m → i < length list
   filled-has (filled (begun rest k e)) h = rw (e, length-append, length-each f i) (omega (arith, length-each f i))
+
+  -- a loop over the first k places, or all of them
+  module _ {end : ℕ} (k : ℕ) (ends : end ≡ min k m) where
+    pub part-on : Filled f m list i → i < end → {a : A} → a ≡ f i → Filled f m (set list i a) (i + 1)
+    part-on g h e = filled-on g (omega arith) e
+
+    pub part-end : Filled f m list i → end ≤ i → take (min k m) list ≡ each (min k m) f
+    part-end (filled (begun rest l e)) h = rw e (take-each f i (min k m) rest (omega arith))
 
   pub filled-end : Filled f m list i → m ≤ i → list ≡ each m f
   filled-end (filled (begun rest k e)) h =

@@ -1,8 +1,11 @@
 -- The records, field by field.
-use mathlib.Core.Path.{_≡_}
+use mathlib.Core.Path.{_≡_, sym, ap, _∙_}
 use mathlib.Core.List.{List}
 use mathlib.Core.Bool.{Bool}
-use Prim.Native.Nat.{ℕ, _+_}
+use Prim.Native.Nat.{ℕ, _+_, _<_, _≤_}
+use native.Mathlib.Omega.{arith}
+use lib.ListN.{take, getD}
+use lib.Seq.{getD-take}
 use lib.IntN.{ℤ}
 use Rattle.obu.specs.declared.header.ObuHeader.{ObuHeader}
 use Rattle.sequence.specs.declared.record.TimingInfo.{TimingInfo}
@@ -10,6 +13,8 @@ use Rattle.sequence.specs.declared.record.DecoderModelInfo.{DecoderModelInfo}
 use Rattle.sequence.specs.declared.record.OperatingPoint.{OperatingPoint}
 use Rattle.sequence.specs.declared.record.ColorConfig.{ColorConfig}
 use Rattle.sequence.specs.declared.record.SequenceHeaderObu.{SequenceHeaderObu}
+use Rattle.sequence.specs.Points.{no-point}
+use Rattle.sequence.specs.Sequence.{sequence-header}
 use Rattle.quantization.specs.declared.QuantizationContext.{QuantizationContext}
 use Rattle.quantization.specs.declared.QuantizationParams.{QuantizationParams}
 use Rattle.segmentation.specs.declared.SegmentationContext.{SegmentationContext}
@@ -22,7 +27,9 @@ use Rattle.restoration.specs.declared.LoopRestorationContext.{LoopRestorationCo
 use Rattle.restoration.specs.declared.LoopRestorationParams.{LoopRestorationParams}
 use Rattle.boundary.specs.Parts.{quantization-context, quantization-params, segmentation-context, segmentation-params, loop-filter-context, loop-filter-params, cdef-context, cdef-params, lr-context, lr-params}
 use Rattle.boundary.specs.Numbers.{at, flag-at, byte-at, each}
-use Rattle.boundary.specs.Sequence.{general, model, points, frame, ids, tools, choices, hints, filters, grain, header-of, timing-of, model-of, point-of, color-of, record-of}
+use Rattle.boundary.specs.Sequence.{general, model, points, frame, ids, tools, choices, hints, filters, grain, header-of, timing-of, model-of, point-of, color-of, record-of, used}
+use Rattle.boundary.proofs.Filling.{getD-each}
+use Rattle.sequence.proofs.Unused.{unused}
 
 -- the sequence header's record as the code makes it
 module _ (xs : List ℕ) where
@@ -69,18 +76,24 @@ module _ (xs : List ℕ) where
     «film_grain_params_present» = flag-at xs grain;
   }
 
-  pub record-is : {h : ObuHeader} {t : TimingInfo} {m : DecoderModelInfo} {ps : List OperatingPoint} {k : ColorConfig} {w v b : ℕ}
+  -- what is coded of it goes by the points that are used
+  pub record-coded : (ps : List OperatingPoint) {h : ObuHeader} {t : TimingInfo} {m : DecoderModelInfo} {k : ColorConfig} {w v b : ℕ}
       → h ≡ header-of xs
       → t ≡ timing-of xs
       → m ≡ model-of xs
-      → ps ≡ each 32 (point-of xs)
+      → take (used (at xs 19)) ps ≡ each (used (at xs 19)) (point-of xs)
       → k ≡ color-of xs
       → w ≡ byte-at xs frame
       → v ≡ byte-at xs (frame + 1)
       → b ≡ byte-at xs hints
-      → made h t m ps k w v b ≡ record-of xs
+      → sequence-header .coded (made h t m ps k w v b) ≡ sequence-header .coded (record-of xs)
   unfolding record-of
-  record-is h t m ps k w v b = λ i. made (h i) (t i) (m i) (ps i) (k i) (w i) (v i) (b i)
+  record-coded ps h t m e k w v b = ap (sequence-header .coded) (λ i. made (h i) (t i) (m i) ps (k i) (w i) (v i) (b i)) ∙ unused (record-of xs) ps (each 32 (point-of xs)) same
+    where
+      same : (i : ℕ) → i < 32 → i ≤ at xs 19 → getD ps i no-point ≡ getD (each 32 (point-of xs)) i no-point
+      same i l u =
+          let n : i < used (at xs 19) = omega arith in
+          sym (getD-take (used (at xs 19)) ps i no-point n) ∙ ap (λ (l : List OperatingPoint). getD l i no-point) e ∙ getD-each (point-of xs) (used (at xs 19)) i no-point n ∙ sym (getD-each (point-of xs) 32 i no-point l)
 
 module _ (xs : List ℤ) where
   pub quantization-context-is : {a : ℕ} {b : Bool}

@@ -1,6 +1,6 @@
 -- The sequence header's record and its 347 numbers, in the order of the case lines with 32 points.
 use mathlib.Core.List.{List, [], _∷_, _++_}
-use Prim.Native.Nat.{ℕ, _+_, _*_}
+use Prim.Native.Nat.{ℕ, _+_, _*_, min}
 use lib.ListN.{getD}
 use Rattle.obu.specs.declared.header.ObuHeader.{ObuHeader}
 use Rattle.sequence.specs.declared.record.TimingInfo.{TimingInfo}
@@ -26,6 +26,10 @@ points = 18
 
 abbrev pub point : ℕ → ℕ
 point i = 20 + 9 * i
+
+-- of the 32 points a header uses those up to its count
+abbrev pub used : ℕ → ℕ
+used count = min (count + 1) 32
 
 abbrev pub frame : ℕ
 frame = 308

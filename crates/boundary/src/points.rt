@@ -2,8 +2,10 @@
 use sequence::record::OperatingPoint;
 ghost use mathlib.Core.Path.{_≡_};
 ghost use Prim.Native.Nat.{_<_};
-ghost use Rattle.boundary.specs.Numbers.{each};
-ghost use Rattle.boundary.specs.Sequence.{point-of};
+ghost use lib.ListN.{take};
+ghost use Rattle.sequence.specs.Points.{no-point};
+ghost use Rattle.boundary.specs.Numbers.{at, each};
+ghost use Rattle.boundary.specs.Sequence.{point-of, used};
 
 // Point i.
 fn operating_point(n: &[u32; 347], i: usize) -> OperatingPoint
@@ -24,12 +26,36 @@ fn operating_point(n: &[u32; 347], i: usize) -> OperatingPoint
     }
 }
 
-pub fn operating_points(n: &[u32; 347]) -> [OperatingPoint; 32]
-    ensures { λ r. ⌜ r ≡ each 32 (point-of (now (n .entry))) ⌝ }
+fn no_point() -> OperatingPoint
+    ensures { λ r. ⌜ r ≡ no-point ⌝ }
 {
-    let first = operating_point(n, 0);
-    let mut points = [first; 32];
-    for i in 0..32 {
+    OperatingPoint {
+        idc: 0,
+        seq_level_idx: 0,
+        seq_tier: 0,
+        decoder_model_present_for_this_op: false,
+        decoder_buffer_delay: 0,
+        encoder_buffer_delay: 0,
+        low_delay_mode_flag: false,
+        initial_display_delay_present_for_this_op: false,
+        initial_display_delay_minus_1: 0,
+    }
+}
+
+// How many points a header with this count uses.
+pub fn used(count: u32) -> usize
+    ensures { λ r. ⌜ r ≡ used count ⌝ }
+{
+    if count < 31 { count as usize + 1 } else { 32 }
+}
+
+// The points that are used; the others stay zeros.
+pub fn operating_points(n: &[u32; 347]) -> [OperatingPoint; 32]
+    ensures { λ r. ⌜ take (used (at (now (n .entry)) 19)) r ≡ each (used (at (now (n .entry)) 19)) (point-of (now (n .entry))) ⌝ }
+{
+    let none = no_point();
+    let mut points = [none; 32];
+    for i in 0..used(n[19]) {
         points[i] = operating_point(n, i);
     }
     points

@@ -7,6 +7,7 @@ use sequence::record::DecoderModelInfo;
 use sequence::record::SequenceHeaderObu;
 use sequence::record::TimingInfo;
 ghost use mathlib.Core.Path.{_≡_};
+ghost use Rattle.sequence.specs.Sequence.{sequence-header};
 ghost use Rattle.boundary.specs.Sequence.{timing-of, model-of, color-of, record-of};
 
 const GENERAL: usize = 5;
@@ -74,8 +75,9 @@ fn color_config(n: &[u32; 347]) -> ColorConfig
     }
 }
 
+// All of the record that a walk looks at.
 pub fn sequence_header(n: &[u32; 347]) -> SequenceHeaderObu
-    ensures { λ r. ⌜ r ≡ record-of (now (n .entry)) ⌝ }
+    ensures { λ r. ⌜ sequence-header .coded r ≡ sequence-header .coded (record-of (now (n .entry))) ⌝ }
 {
     let obu_header = obu_header(n[0], n[1], n[2], n[3], n[4]);
     let timing_info = timing_info(n);

@@ -1,16 +1,16 @@
 -- The loop's invariant: the places below i are filled.
-use Prim.Native.Nat.{_+_, _-_}
+use Prim.Native.Nat.{_-_}
 use borrow.Author.Needs.{needs}
 use Rattle.boundary.specs.Sequence.{point-of}
-use Rattle.boundary.proofs.Filling.{Filled, filled-none, filled-on, filled-has, filled-end}
+use Rattle.boundary.proofs.Filling.{Filled, filled-none, part-on, part-end}
 use Rattle.boundary.proofs.points.operating_points.Statement.{statement}
 use Rattle.boundary.proofs.points.operating_points.Tie as tie
 
 abbrev Inv-loop : tie.InvT-loop
-Inv-loop n points₀ i₀ points i = Filled (point-of n) 32 points i
+Inv-loop n points₀ i₀ i-end points i = Filled (point-of n) 32 points i
 
 abbrev μ-loop : tie.MeasureT-loop
-μ-loop n points₀ i₀ points i = 32 - i
+μ-loop n points₀ i₀ i-end points i = i-end - i
 
 pub operating-points-spec : {M : Type 1} → statement M
 operating-points-spec =
@@ -18,4 +18,4 @@ operating-points-spec =
     (tie.spec
     Inv-loop
     μ-loop
-    (λ c κs. search needs) (λ c. filled-none _) (λ c κs. search needs) (λ c. search needs) (λ c. search filled-has) (λ c. search needs) (λ c. search needs) (λ c. search filled-on) (λ c. search filled-end))
+    (λ c κs. search needs) (λ c. search needs) (λ c κs. search needs) (λ c. filled-none _) (λ c κs. search needs) (λ c. search needs) (λ c. search needs) (λ c. search needs) (λ c. search needs) (λ c. search part-on) (λ c. search part-end))

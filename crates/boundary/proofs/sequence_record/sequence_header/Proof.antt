@@ -1,5 +1,5 @@
 use borrow.Author.Needs.{needs}
-use Rattle.boundary.proofs.Records.{record-is}
+use Rattle.boundary.proofs.Records.{record-coded}
 use Rattle.boundary.proofs.sequence_record.sequence_header.Statement.{statement}
 use Rattle.boundary.proofs.sequence_record.sequence_header.Tie as tie
 
@@ -13,7 +13,7 @@ returns c =
     let model = points .before in
     let timing = model .before in
     let header = timing .before in
-    record-is (header .before .before .before .before .before .before .args .n .now) (header .obu-header .ensures) (timing .timing-info .ensures) (model .decoder-model-info .ensures) (points .operating-points .ensures) (color .color-config .ensures)
+    record-coded (header .before .before .before .before .before .before .args .n .now) (points .operating-points .result) (header .obu-header .ensures) (timing .timing-info .ensures) (model .decoder-model-info .ensures) (points .operating-points .ensures) (color .color-config .ensures)
     (width .byte .ensures) (height .byte2 .ensures) (hints .byte3 .ensures)
 
 pub sequence-header-spec : {M : Type 1} → statement M
