@@ -11,20 +11,56 @@ ghost use mathlib.Core.Path.{_≡_};
 ghost use Rattle.sequence.specs.Timing.{no-timing-info, no-decoder-model-info};
 ghost use Rattle.sequence_reader.specs.Zeros.{no-operating-points, no-timing, no-record};
 
+const NONE: OperatingPoint = OperatingPoint {
+    idc: 0,
+    seq_level_idx: 0,
+    seq_tier: 0,
+    decoder_model_present_for_this_op: false,
+    decoder_buffer_delay: 0,
+    encoder_buffer_delay: 0,
+    low_delay_mode_flag: false,
+    initial_display_delay_present_for_this_op: false,
+    initial_display_delay_minus_1: 0,
+};
+
+// Written out, since LLVM takes a repeat of 32 apart, and then moves the array field by field.
 pub fn no_operating_points() -> [OperatingPoint; 32]
     ensures { λ r. ⌜ r ≡ no-operating-points ⌝ }
 {
-    [OperatingPoint {
-        idc: 0,
-        seq_level_idx: 0,
-        seq_tier: 0,
-        decoder_model_present_for_this_op: false,
-        decoder_buffer_delay: 0,
-        encoder_buffer_delay: 0,
-        low_delay_mode_flag: false,
-        initial_display_delay_present_for_this_op: false,
-        initial_display_delay_minus_1: 0,
-    }; 32]
+    [
+        NONE,
+        NONE,
+        NONE,
+        NONE,
+        NONE,
+        NONE,
+        NONE,
+        NONE,
+        NONE,
+        NONE,
+        NONE,
+        NONE,
+        NONE,
+        NONE,
+        NONE,
+        NONE,
+        NONE,
+        NONE,
+        NONE,
+        NONE,
+        NONE,
+        NONE,
+        NONE,
+        NONE,
+        NONE,
+        NONE,
+        NONE,
+        NONE,
+        NONE,
+        NONE,
+        NONE,
+        NONE,
+    ]
 }
 
 pub fn no_points() -> Points {
