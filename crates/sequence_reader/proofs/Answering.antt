@@ -7,7 +7,7 @@ use lib.ListN.{length}
 use lib.Dec.{ltb}
 use Rattle.bits.specs.Bits.{bitsOf, from}
 use Rattle.bits.specs.Codec.{got, stop, andThen, via}
-use Rattle.bits.specs.Answers.{value, refused, why, found, moved, Reads, Said, Reading, reading, step}
+use Rattle.bits.specs.Answers.{value, refused, why, found, moved, Reads, Said, said, Reading, reading, step}
 use Rattle.bits.specs.declared.answer.Cursor.{Cursor}
 use Rattle.bits.specs.declared.answer.Refusal.{Refusal}
 use Rattle.bits.specs.declared.answer.Refusal.the-variants.{Long}
@@ -32,7 +32,7 @@ use Rattle.sequence_reader.specs.declared.read.SequenceAnswer.{SequenceA
 use Rattle.sequence_reader.specs.declared.read.Outcome.the-variants.{Done, Refused}
 use Rattle.sequence_reader.specs.Zeros.{no-record}
 use Rattle.sequence_reader.specs.Tails.{record-with}
-use Rattle.sequence_reader.specs.Beside.{answerOf, TellsBeside, tells-beside}
+use Rattle.sequence_reader.specs.Closing.{Closes, no-table, no-end, stands}
 use Rattle.sequence_reader.specs.Reader.{refusedAs, answerFor}
 use Rattle.sequence_reader.proofs.BesideReading.{undone-no}
 
@@ -56,21 +56,15 @@ pub too-long : (xs : List ℕ) {r : SequenceAnswer} → 65536 < length xs → r 
 too-long xs l h = stopped xs h (read-long (obu 1 sequence-header-obu) xs l)
 
 -- the table's value behind a record, and a refusal
-module _ {h : ObuHeader} {xs : List ℕ} {p : Cursor} {s : Step} {a : SequenceHeaderObu} where
-  table : {q : Cursor} → TellsBeside (record-with h) sequence-header-obu xs p s a → s ≡ S.Next q → (v : SequenceTable) × Reads (sequence-header-obu .dec) xs p (value v q) × (a ≡ record-in (h, v))
-  unfolding answerOf found moved
-  table {q} (tells-beside b) e = go (rw e at b)
-    where
-      go : Reading (record-with h) sequence-header-obu xs p (value a q) → (v : SequenceTable) × Reads (sequence-header-obu .dec) xs p (value v q) × (a ≡ record-in (h, v))
-      go (reading r) =
-          let u = then-inv (sequence-header-obu .dec (from xs (p .at))) (λ v rest. got (record-in (h, v)) rest) a (from xs (q .at)) (r .finds) in
-          (u .0, record { finds = u .2 ∙ ap (got (u .0)) (got-rest (u .3)); moves = r .moves }, sym (got-value (u .3)))
+module _ {h : ObuHeader} {xs : List ℕ} {p : Cursor} where
+  table : {a : SequenceHeaderObu} {q : Cursor} → Reading (record-with h) sequence-header-obu xs p (value a q) → (v : SequenceTable) × Reads (sequence-header-obu .dec) xs p (value v q) × (a ≡ record-in (h, v))
+  unfolding found moved
+  table {a} {q} (reading r) =
+      let u = then-inv (sequence-header-obu .dec (from xs (p .at))) (λ v rest. got (record-in (h, v)) rest) a (from xs (q .at)) (r .finds) in
+      (u .0, record { finds = u .2 ∙ ap (got (u .0)) (got-rest (u .3)); moves = r .moves }, sym (got-value (u .3)))
 
-  no-table : {y z : Refusal} → TellsBeside (record-with h) sequence-header-obu xs p s a → s ≡ S.Refused z → y ≡ why (step .view s) → Reads (sequence-header-obu .dec) xs p (refused y)
-  unfolding answerOf
-  no-table {y} {z} (tells-beside b) e w =
-      let u : y ≡ z = w ∙ ap (λ (x : Step). why (step .view x)) e in
-      rw u (left-all sequence-header-obu .rest _ (undone-no (λ (v : SequenceTable). v) (rw e at b)))
+  not-table : {y : Refusal} → Reading (record-with h) sequence-header-obu xs p (refused y) → Reads (sequence-header-obu .dec) xs p (refused y)
+  not-table b = left-all sequence-header-obu .rest _ (undone-no (λ (v : SequenceTable). v) b)
 
 module _ (xs : List ℕ) (few : length xs ≤ 65536) {g : GotHeader} (head : Said header (obu-header 1 .dec) xs origin g) where
   pub header-stop : {r : SequenceAnswer} {y z : Refusal} → g ≡ H.Refused z → y ≡ why (header .view g) → r ≡ refusedAs y → r ≡ answerFor (read sequence-header xs)
@@ -80,16 +74,13 @@ module _ (xs : List ℕ) (few : length xs ≤ 65536) {g : GotHeader} (head : Sai
     pub size-stop : {r : SequenceAnswer} {y z : Refusal} → s ≡ S.Refused z → y ≡ why (step .view s) → r ≡ refusedAs y → r ≡ answerFor (read sequence-header xs)
     size-stop {z = z} f w k = stopped xs k (no-size 1 sequence-header-obu xs few head e Z {z = z} f w)
 
-    module _ {d : Cursor} (f : s ≡ S.Next d) {o : Step} {a : SequenceHeaderObu} (B : TellsBeside (record-with h) sequence-header-obu xs d o a) where
-      pub body-stop : {r : SequenceAnswer} {y z : Refusal} → o ≡ S.Refused z → y ≡ why (step .view o) → r ≡ refusedAs y → r ≡ answerFor (read sequence-header xs)
-      body-stop {z = z} j w k = stopped xs k (no-payload 1 sequence-header-obu xs few head e Z f (no-table {z = z} B j w))
-
-      module _ {q : Cursor} (j : o ≡ S.Next q) {u : Step} (T : Said step readTrailing xs q u) where
-        pub tail-stop : {r : SequenceAnswer} {y z : Refusal} → u ≡ S.Refused z → y ≡ why (step .view u) → r ≡ refusedAs y → r ≡ answerFor (read sequence-header xs)
-        tail-stop {z = z} m w k = stopped xs k (no-tail 1 sequence-header-obu xs few head e Z f (table {q = q} B j .1) T {z = z} m w)
-
-        pub all-stands : {end : Cursor} → u ≡ S.Next end → record { outcome = Done; «record» = a } ≡ answerFor (read sequence-header xs)
-        unfolding answerFor
-        all-stands {end} m =
-            let v = table {q = q} B j in
-            rw (as-record xs, all-read 1 sequence-header-obu xs few head e Z f (v .1) T {end = end} m) (λ i. record { outcome = Done; «record» = v .2 i })
+    pub to-the-end : {d : Cursor} {r : SequenceAnswer} → s ≡ S.Next d → Closes (record-with h) sequence-header-obu xs d r → r ≡ answerFor (read sequence-header xs)
+    unfolding answerFor
+    to-the-end f (no-table b k) = stopped xs k (no-payload 1 sequence-header-obu xs few head e Z f (not-table b))
+    to-the-end f (no-end {y} {q = q} b u k) =
+        let T : Said step readTrailing xs q (S.Refused y) = said u in
+        stopped xs k (no-tail 1 sequence-header-obu xs few head e Z f (table b .1) T {z = y} refl refl)
+    to-the-end f (stands {q = q} {end} b u k) =
+        let T : Said step readTrailing xs q (S.Next end) = said u in
+        let v = table b in
+        k ∙ rw (as-record xs, all-read 1 sequence-header-obu xs few head e Z f (v .1) T {end = end} refl) (λ i. record { outcome = Done; «record» = v .2 i })

@@ -11,8 +11,8 @@ use Rattle.bits.specs.declared.answer.Refusal.{Refusal}
 use Rattle.bits.specs.declared.answer.Step.{Step}
 use Rattle.bits.specs.declared.answer.Step.the-variants as S
 use Rattle.bits.proofs.Laws.{stop-got, got-value, got-rest}
-use Rattle.bits.proofs.Reading.{readings, read-on, read-halt, read-last, read-no, left-all}
-use Rattle.sequence_reader.specs.Beside.{answerOf, Beside, beside, TellsBeside, tells-beside}
+use Rattle.bits.proofs.Reading.{read-on, read-halt, read-last, read-no, left-all}
+use Rattle.sequence_reader.specs.Beside.{answerOf, Beside, beside}
 
 -- a value beside its outcome
 module _ {A : Type 0} (t : Codec A) {xs : List ℕ} {c : Cursor} {a : A} where
@@ -71,17 +71,3 @@ undone-no {h = h} {t} {xs} {p} {y} make (reading g) = reading (record { finds = 
     go : (x : Got _) → andThen x (λ a rest. got (h a) rest) ≡ stop y → andThen x (λ a rest. got (make a) rest) ≡ stop y
     go (got a rest) e = absurd (stop-got (sym e))
     go (stop r) e = cc
-
--- the rest of a table, beside its outcome
-module _ {A B : Type 0} {make : A → B} (t : Codec A) {xs : List ℕ} {c : Cursor} {b : B} {o : Step} where
-  pub told-no : {y : Refusal} → o ≡ S.Refused y → Reading make t xs c (refused y) → TellsBeside make t xs c o b
-  unfolding answerOf
-  told-no h g = rw h (tells-beside g)
-
-  pub told-all : Reading make t xs c (answerOf o b) → TellsBeside make t xs c o b
-  told-all g = tells-beside g
-
-pub pass-beside : {A B : Type 0} {make : A → B} {t : Codec A} {xs : List ℕ} {c : Cursor} {o : Step} {b : B} → TellsBeside make t xs c o b → Reading make t xs c (answerOf o b)
-pass-beside (tells-beside g) = g
-
-pub ruleset record-readings = (readings, told-no, told-all, pass-beside)

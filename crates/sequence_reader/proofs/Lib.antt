@@ -3,6 +3,7 @@ pub mod FieldReading
 pub mod ToolReading
 pub mod ArrayReading
 pub mod BesideReading
+pub mod ClosingReading
 pub mod PointReading
 pub mod SequenceReading
 pub mod Answering

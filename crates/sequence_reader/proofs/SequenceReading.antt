@@ -8,7 +8,7 @@ use borrow.Author.Tests.{le-leb, lt-leb}
 use Rattle.bits.specs.Bits.{Bits}
 use Rattle.bits.specs.Elements.{seq-profile}
 use Rattle.bits.specs.Codec.{f, absent, inferredFlag, within, choose, via, _▷_, nil}
-use Rattle.bits.specs.Answers.{value, why, found, moved, Reads, Said, said, Tells, tells, number, step}
+use Rattle.bits.specs.Answers.{value, why, found, moved, Reads, Reading, Said, said, Tells, number, step}
 use Rattle.bits.specs.declared.answer.Cursor.{Cursor}
 use Rattle.bits.specs.declared.answer.Refusal.{Refusal}
 use Rattle.bits.specs.declared.answer.Refusal.the-variants.{Inconsistent}
@@ -18,8 +18,9 @@ use Rattle.bits.specs.declared.answer.Step.{Step}
 use Rattle.bits.specs.declared.answer.Step.the-variants as S
 use Rattle.bits.proofs.Laws.{got-value}
 use Rattle.bits.proofs.Leaves.{f-fits}
-use Rattle.bits.proofs.Reading.{is, is-not, read-on, read-halt, left-all}
+use Rattle.bits.proofs.Reading.{is, is-not, read-on, read-halt, left-all, pass-rest}
 use Rattle.obu.specs.declared.header.ObuHeader.{ObuHeader}
+use Rattle.obu.specs.Frame.{readTrailing}
 use Rattle.sequence.specs.declared.record.DecoderModelInfo.{DecoderModelInfo}
 use Rattle.sequence.specs.declared.record.SequenceHeaderObu.{SequenceHeaderObu}
 use Rattle.sequence.specs.declared.group.Timing.{Timing}
@@ -33,11 +34,16 @@ use Rattle.sequence_reader.specs.declared.got.GotTiming.the-variants as 
 use Rattle.sequence_reader.specs.declared.got.Rest.{Rest}
 use Rattle.sequence_reader.specs.declared.got.GotRest.{GotRest}
 use Rattle.sequence_reader.specs.declared.got.GotRest.the-variants as R
+use Rattle.sequence_reader.specs.declared.read.SequenceAnswer.{SequenceAnswer}
+use Rattle.sequence_reader.specs.declared.read.Outcome.the-variants.{Done}
 use Rattle.sequence_reader.specs.Forms as form
 use Rattle.sequence_reader.specs.Zeros.{no-timing}
 use Rattle.sequence_reader.specs.Tails.{rest-in, body-rest, body-with}
-use Rattle.sequence_reader.specs.Beside.{answerOf, Beside, beside, TellsBeside, tells-beside}
+use Rattle.sequence_reader.specs.Beside.{Beside, beside}
+use Rattle.sequence_reader.specs.Reader.{refusedAs}
+use Rattle.sequence_reader.specs.Closing.{Closes, no-table}
 use Rattle.sequence_reader.proofs.BesideReading.{besides, on-beside, halt-beside, beside-no, undone, undone-no}
+use Rattle.sequence_reader.proofs.ClosingReading.{close-no, close-all}
 
 -- seq_profile, of which 3 to 7 are forbidden
 module _ {xs : List ℕ} {c : Cursor} {g : GotNumber} (s : Said number (f 3 0 0 .dec) xs c g) where
@@ -104,19 +110,25 @@ abbrev all-in : ObuHeader → ℕ → Bool → Bool → Timing → Points → Re
 all-in header profile still reduced t p = λ rest. body-with header profile still reduced ((t, p), (rest .«frame_size», (rest .«frame_ids», (rest .«block_tools», (rest .«inter_tools», (rest .«filter_tools», (rest .«color_config», rest .«film_grain_params_present»)))))))
 
 module _ (header : ObuHeader) (seq-profile : ℕ) (still reduced : Bool) {xs : List ℕ} {c : Cursor} {o : Step} {t : Timing} {p : Points} (G : Beside (general reduced .dec) xs c o (t, p)) where
-  pub no-general : {u : Step} {y z : Refusal} {h : SequenceHeaderObu} → o ≡ S.Refused z → y ≡ why (step .view o) → u ≡ S.Refused y → TellsBeside (body-with header seq-profile still reduced) (body seq-profile reduced) xs c u h
-  unfolding body answerOf
-  no-general {z = z} e w k = rw k (tells-beside (halt-beside (general reduced) _ {z = z} G e w))
+  pub no-general : {a : SequenceAnswer} {y z : Refusal} → o ≡ S.Refused z → y ≡ why (step .view o) → a ≡ refusedAs y → Closes (body-with header seq-profile still reduced) (body seq-profile reduced) xs c a
+  unfolding body
+  no-general {z = z} e w k = no-table (halt-beside (general reduced) _ {z = z} G e w) k
 
-  module _ {q : Cursor} (e : o ≡ S.Next q) {g : GotRest} where
-    pub no-rest : {u : Step} {y z : Refusal} {h : SequenceHeaderObu} → Tells form.rest rest-in (body-rest seq-profile reduced) xs q g → g ≡ R.Refused z → y ≡ why (form.rest .view g) → u ≡ S.Refused y
-        → TellsBeside (body-with header seq-profile still reduced) (body seq-profile reduced) xs c u h
-    unfolding body answerOf body-rest
-    no-rest {y = y} {z} (tells r) f w k =
+  module _ {q : Cursor} (e : o ≡ S.Next q) {g : GotRest} (B : Tells form.rest rest-in (body-rest seq-profile reduced) xs q g) where
+    pub no-rest : {a : SequenceAnswer} {y z : Refusal} → g ≡ R.Refused z → y ≡ why (form.rest .view g) → a ≡ refusedAs y → Closes (body-with header seq-profile still reduced) (body seq-profile reduced) xs c a
+    unfolding body body-rest
+    no-rest {y = y} {z} f w k =
         let v : y ≡ z = w ∙ ap (λ (x : GotRest). why (form.rest .view x)) f in
-        rw (k, v) (tells-beside (on-beside (general reduced) _ {q = q} G e (undone-no _ (rw f at r))))
+        no-table {y = y} (rw v (on-beside (general reduced) _ {q = q} G e (undone-no _ (rw f at (pass-rest {r = form.rest .view g} B refl))))) k
 
-    pub all-body : {b : Rest} {d : Cursor} {h : SequenceHeaderObu} → Tells form.rest rest-in (body-rest seq-profile reduced) xs q g → g ≡ R.Value b d → h ≡ all-in header seq-profile still reduced t p b
-        → TellsBeside (body-with header seq-profile still reduced) (body seq-profile reduced) xs c (S.Next d) h
-    unfolding body answerOf body-rest
-    all-body {b} {d} (tells r) f k = rw k (tells-beside (on-beside (general reduced) _ {q = q} G e (undone (all-in header seq-profile still reduced t p) (rw f at r))))
+    module _ {b : Rest} {d : Cursor} (f : g ≡ R.Value b d) where
+      whole : Reading (body-with header seq-profile still reduced) (body seq-profile reduced) xs c (value (all-in header seq-profile still reduced t p b) d)
+      unfolding body body-rest
+      whole = on-beside (general reduced) _ {q = q} G e (undone (all-in header seq-profile still reduced t p) (rw f at (pass-rest {r = form.rest .view g} B refl)))
+
+      module _ {u : Step} (T : Said step readTrailing xs d u) where
+        pub no-trailing : {a : SequenceAnswer} {y z : Refusal} → u ≡ S.Refused z → y ≡ why (step .view u) → a ≡ refusedAs y → Closes (body-with header seq-profile still reduced) (body seq-profile reduced) xs c a
+        no-trailing {z = z} j w k = close-no whole T {z = z} j w k
+
+        pub all-body : {end : Cursor} {h : SequenceHeaderObu} → u ≡ S.Next end → h ≡ all-in header seq-profile still reduced t p b → Closes (body-with header seq-profile still reduced) (body seq-profile reduced) xs c (record { outcome = Done; «record» = h })
+        all-body {end} j k = rw k (close-all whole T {end = end} j)

@@ -2,8 +2,8 @@
 use mathlib.Core.List.{List}
 use Prim.Native.Nat.{ℕ}
 use Rattle.bits.specs.Bits.{Bits}
-use Rattle.bits.specs.Codec.{Codec, Got}
-use Rattle.bits.specs.Answers.{Answer, value, refused, Reads, Reading}
+use Rattle.bits.specs.Codec.{Got}
+use Rattle.bits.specs.Answers.{Answer, value, refused, Reads}
 use Rattle.bits.specs.declared.answer.Cursor.{Cursor}
 use Rattle.bits.specs.declared.answer.Step.{Step}
 use Rattle.bits.specs.declared.answer.Step.the-variants.{Next, Refused}
@@ -15,7 +15,3 @@ answerOf (Refused r) a = refused r
 -- the outcome s with the value a is what d reads of the bytes xs from the cursor c on; a refusal says nothing of the value
 pub data Beside {A : Type 0} (d : Bits → Got A) (xs : List ℕ) (c : Cursor) (s : Step) (a : A) : Type 0 where
   beside : Reads d xs c (answerOf s a) → Beside d xs c s a
-
--- the same of the rest of a table: what was read before goes into `make`
-pub data TellsBeside {A B : Type 0} (make : A → B) (t : Codec A) (xs : List ℕ) (c : Cursor) (s : Step) (b : B) : Type 0 where
-  tells-beside : Reading make t xs c (answerOf s b) → TellsBeside make t xs c s b

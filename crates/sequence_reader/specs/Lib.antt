@@ -3,4 +3,5 @@ pub mod Tails
 pub mod Zeros
 pub mod Beside
 pub mod Reader
+pub mod Closing
 pub mod Payload

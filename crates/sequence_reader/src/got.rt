@@ -21,7 +21,6 @@ use sequence::group::Timing;
 use sequence::record::ColorConfig;
 use sequence::record::DecoderModelInfo;
 use sequence::record::OperatingPoint;
-use sequence::record::SequenceHeaderObu;
 use sequence::record::TimingInfo;
 ghost use mathlib.Core.Path.{_≡_};
 ghost use Rattle.bits.specs.Answers.{why};
@@ -59,11 +58,6 @@ pub struct GotGeneral {
     pub outcome: Step,
     pub timing: Timing,
     pub points: Points,
-}
-
-pub struct GotSequence {
-    pub outcome: Step,
-    pub sequence_header: SequenceHeaderObu,
 }
 
 pub enum GotTimingInfo {

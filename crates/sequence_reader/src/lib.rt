@@ -1,6 +1,6 @@
 // The sequence header OBU (5.5), read.
 mod got; // got.rt: what each group answers
-mod none; // none.rt: values of zeros
+mod none; // none.rt: values of zeros, and the answer of a refusal
 mod optional; // optional.rt: fields that are coded or inferred, and fields of a byte
 pub mod read; // read.rt: the public calls
 mod read_body; // read_body.rt: 5.5.1, whole

@@ -1,4 +1,7 @@
 // Values of zeros: what stands where nothing is coded, and the record of a refusal.
+use crate::read::Outcome;
+use crate::read::SequenceAnswer;
+use bits::answer::Refusal;
 use obu::header::ObuHeader;
 use sequence::group::Points;
 use sequence::group::Timing;
@@ -10,6 +13,7 @@ use sequence::record::TimingInfo;
 ghost use mathlib.Core.Path.{_≡_};
 ghost use Rattle.sequence.specs.Timing.{no-timing-info, no-decoder-model-info};
 ghost use Rattle.sequence_reader.specs.Zeros.{no-operating-points, no-timing, no-record};
+ghost use Rattle.sequence_reader.specs.Reader.{refusedAs};
 
 const NONE: OperatingPoint = OperatingPoint {
     idc: 0,
@@ -174,5 +178,15 @@ pub fn no_record() -> SequenceHeaderObu
         enable_restoration: false,
         color_config,
         film_grain_params_present: false,
+    }
+}
+
+pub fn refuse(r: Refusal) -> SequenceAnswer
+    ensures { λ a. ⌜ a ≡ refusedAs r ⌝ }
+{
+    let record = no_record();
+    SequenceAnswer {
+        outcome: Outcome::Refused(r),
+        record,
     }
 }

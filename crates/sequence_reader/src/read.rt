@@ -1,5 +1,5 @@
 // The public calls: a sequence header OBU, read, and its payload.
-use crate::none::no_record;
+use crate::none::refuse;
 use crate::read_body::sequence_header_obu;
 use bits::answer::Cursor;
 use bits::answer::Refusal;
@@ -8,12 +8,11 @@ use bits::answer::why_step;
 use obu::read::GotHeader;
 use obu::read::obu_header;
 use obu::read::obu_size;
-use obu::read::trailing_bits;
 use obu::read::why_header;
 use reader::rest;
 use sequence::record::SequenceHeaderObu;
 ghost use mathlib.Core.Path.{_≡_};
-ghost use Rattle.sequence_reader.specs.Reader.{refusedAs, Answers};
+ghost use Rattle.sequence_reader.specs.Reader.{Answers};
 ghost use Rattle.sequence_reader.specs.Payload.{behind, payloadPart, part};
 
 pub enum Outcome {
@@ -35,16 +34,6 @@ pub struct SequenceAnswer {
     pub record: SequenceHeaderObu,
 }
 
-fn refuse(r: Refusal) -> SequenceAnswer
-    ensures { λ a. ⌜ a ≡ refusedAs r ⌝ }
-{
-    let record = no_record();
-    SequenceAnswer {
-        outcome: Outcome::Refused(r),
-        record,
-    }
-}
-
 // One OBU, the whole of `input`.
 pub fn read_sequence_header(input: &[u8]) -> SequenceAnswer
     ensures { λ r. ⌜ Answers (now (input .entry)) r ⌝ }
@@ -60,20 +49,7 @@ pub fn read_sequence_header(input: &[u8]) -> SequenceAnswer
     let Step::Next(c) = z else {
         return refuse(why_step(z));
     };
-    let r = sequence_header_obu(input, c, header);
-    let o = r.outcome;
-    let Step::Next(c) = o else {
-        return refuse(why_step(o));
-    };
-    let u = trailing_bits(input, c);
-    let Step::Next(_) = u else {
-        return refuse(why_step(u));
-    };
-    let record = r.sequence_header;
-    SequenceAnswer {
-        outcome: Outcome::Done,
-        record,
-    }
+    sequence_header_obu(input, c, header)
 }
 
 // The byte behind the size field, or behind the header if there is none; the end where they are refused.

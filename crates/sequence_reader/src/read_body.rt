@@ -7,7 +7,6 @@ use crate::got::GotFrameSize;
 use crate::got::GotGeneral;
 use crate::got::GotInterTools;
 use crate::got::GotRest;
-use crate::got::GotSequence;
 use crate::got::GotTiming;
 use crate::got::Rest;
 use crate::got::why_block_tools;
@@ -19,8 +18,10 @@ use crate::got::why_inter_tools;
 use crate::got::why_rest;
 use crate::got::why_timing;
 use crate::none::no_points;
-use crate::none::no_record;
 use crate::none::no_timing;
+use crate::none::refuse;
+use crate::read::Outcome;
+use crate::read::SequenceAnswer;
 use crate::read_color::color_config;
 use crate::read_frame::frame_ids;
 use crate::read_frame::frame_size;
@@ -40,6 +41,7 @@ use bits::answer::why_number;
 use bits::answer::why_step;
 use bits::element::SEQ_PROFILE;
 use obu::header::ObuHeader;
+use obu::read::trailing_bits;
 use reader::f;
 use reader::flag;
 use sequence::group::BlockTools;
@@ -54,7 +56,8 @@ ghost use Rattle.bits.specs.declared.answer.Step.the-variants as S;
 ghost use Rattle.sequence.specs.Sequence.{profile, full-general, reduced-general, general, tools, body, sequence-header-obu};
 ghost use Rattle.sequence_reader.specs.Forms as got;
 ghost use Rattle.sequence_reader.specs.Tails.{rest-in, tools-with, filters-with, body-rest, tools-rest, body-with, record-with};
-ghost use Rattle.sequence_reader.specs.Beside.{Beside, TellsBeside};
+ghost use Rattle.sequence_reader.specs.Beside.{Beside};
+ghost use Rattle.sequence_reader.specs.Closing.{Closes};
 
 fn profile(s: &[u8], c: Cursor) -> GotNumber
     ensures { λ r. ⌜ Said form.number (profile .dec) (now (s .entry)) c r ⌝ }
@@ -196,16 +199,7 @@ fn body_rest(s: &[u8], c: Cursor, profile: u32, reduced: bool) -> GotRest
     tools(s, c, profile, reduced, size, ids)
 }
 
-fn refused_record(r: Refusal) -> GotSequence
-    ensures { λ g. ⌜ g .outcome ≡ S.Refused r ⌝ }
-{
-    let h = no_record();
-    GotSequence {
-        outcome: Step::Refused(r),
-        sequence_header: h,
-    }
-}
-
+// From the timing on, with the trailing bits.
 fn body(
     s: &[u8],
     c: Cursor,
@@ -213,19 +207,23 @@ fn body(
     seq_profile: u32,
     still_picture: bool,
     reduced: bool,
-) -> GotSequence
-    ensures { λ r. ⌜ TellsBeside (body-with «obu_header» «seq_profile» «still_picture» reduced) (body «seq_profile» reduced) (now (s .entry)) c (r .outcome) (r .«sequence_header») ⌝ }
+) -> SequenceAnswer
+    ensures { λ r. ⌜ Closes (body-with «obu_header» «seq_profile» «still_picture» reduced) (body «seq_profile» reduced) (now (s .entry)) c r ⌝ }
 {
     let g = general(s, c, reduced);
     let o = g.outcome;
     let Step::Next(c) = o else {
-        return refused_record(why_step(o));
+        return refuse(why_step(o));
     };
     let t = g.timing;
     let p = g.points;
     let r = body_rest(s, c, seq_profile, reduced);
     let GotRest::Value(rest, c) = r else {
-        return refused_record(why_rest(r));
+        return refuse(why_rest(r));
+    };
+    let u = trailing_bits(s, c);
+    let Step::Next(_) = u else {
+        return refuse(why_step(u));
     };
     let timing_info = t.timing_info;
     let decoder_model_info = t.decoder_model_info;
@@ -240,7 +238,7 @@ fn body(
     let hint_bits = inter.hint_bits;
     let filter = rest.filter_tools;
     let color_config = rest.color_config;
-    let h = SequenceHeaderObu {
+    let record = SequenceHeaderObu {
         obu_header,
         seq_profile,
         still_picture,
@@ -281,27 +279,27 @@ fn body(
         color_config,
         film_grain_params_present: rest.film_grain_params_present,
     };
-    GotSequence {
-        outcome: Step::Next(c),
-        sequence_header: h,
+    SequenceAnswer {
+        outcome: Outcome::Done,
+        record,
     }
 }
 
-// 5.5.1, with the header that stands before it.
-pub fn sequence_header_obu(s: &[u8], c: Cursor, obu_header: ObuHeader) -> GotSequence
-    ensures { λ r. ⌜ TellsBeside (record-with «obu_header») sequence-header-obu (now (s .entry)) c (r .outcome) (r .«sequence_header») ⌝ }
+// 5.5.1, with the header that stands before it and the trailing bits behind it.
+pub fn sequence_header_obu(s: &[u8], c: Cursor, obu_header: ObuHeader) -> SequenceAnswer
+    ensures { λ r. ⌜ Closes (record-with «obu_header») sequence-header-obu (now (s .entry)) c r ⌝ }
 {
     let g = profile(s, c);
     let GotNumber::Value(seq_profile, c) = g else {
-        return refused_record(why_number(g));
+        return refuse(why_number(g));
     };
     let b = flag(s, c);
     let GotFlag::Value(still_picture, c) = b else {
-        return refused_record(why_flag(b));
+        return refuse(why_flag(b));
     };
     let b = flag(s, c);
     let GotFlag::Value(reduced, c) = b else {
-        return refused_record(why_flag(b));
+        return refuse(why_flag(b));
     };
     body(s, c, obu_header, seq_profile, still_picture, reduced)
 }

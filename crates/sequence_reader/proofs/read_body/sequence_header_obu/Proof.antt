@@ -1,6 +1,6 @@
 use borrow.Author.Needs.{needs}
 use Rattle.sequence.specs.Sequence.{sequence-header-obu}
-use Rattle.sequence_reader.proofs.BesideReading.{record-readings}
+use Rattle.sequence_reader.proofs.ClosingReading.{closing}
 use Rattle.sequence_reader.proofs.read_body.sequence_header_obu.Statement.{statement}
 use Rattle.sequence_reader.proofs.read_body.sequence_header_obu.Tie as tie
 
@@ -9,7 +9,7 @@ unfolding sequence-header-obu
 sequence-header-obu-spec =
     tie.close
     (tie.spec
-    (λ c κs. search needs) (λ c. search needs) (λ c. search needs) (λ c κs. search needs) (λ c κs. search needs) (λ c. search record-readings depth 14)
-    (λ c κs. search needs) (λ c. search needs) (λ c. search needs) (λ c κs. search needs) (λ c κs. search needs) (λ c. search record-readings depth 14)
-    (λ c κs. search needs) (λ c. search needs) (λ c. search needs) (λ c κs. search needs) (λ c κs. search needs) (λ c. search record-readings depth 14)
-    (λ c κs. search needs) (λ c. search record-readings depth 14))
+    (λ c κs. search needs) (λ c. search needs) (λ c. search needs) (λ c κs. search needs) (λ c κs. search needs) (λ c. search closing depth 14)
+    (λ c κs. search needs) (λ c. search needs) (λ c. search needs) (λ c κs. search needs) (λ c κs. search needs) (λ c. search closing depth 14)
+    (λ c κs. search needs) (λ c. search needs) (λ c. search needs) (λ c κs. search needs) (λ c κs. search needs) (λ c. search closing depth 14)
+    (λ c κs. search needs) (λ c. search closing depth 14))
