@@ -8,16 +8,17 @@ use native.Mathlib.Nat.{add-suc, suc-add, add-zero, zero-add, add-mul, mul-assoc
 use lib.Arith.{digits-div, digits-lt}
 use lib.Pow.{pow-pos, pow-add, mod-mod-pow, mod-pow-add, shr-lt, pow-mono}
 use lib.ListN.{length, getD, set, length-set}
-use lib.Dec.{eqb, ltb, lit<}
+use lib.Dec.{eqb, lit<}
 use lib.Seq.{set-out, set-set, getD-set-same, set-getD}
 use borrow.Author.Tests.{lt-ltb}
 use mir.Val.{boolByte}
-use mathlib.Core.Bool.{Bool, true, false, cond}
-use Rattle.bits.specs.Bits.{Bits, bit, bitAt, toBits, put, setBit, withBit, weight, limit}
+use mathlib.Core.Bool.{Bool, true, false}
+use Rattle.bits.specs.Bits.{bit, bitAt, toBits, put, setBit, withBit, weight, limit}
 use Rattle.writer.specs.Blend.{blend}
 use Rattle.bits.proofs.Numbers.{length-toBits, bit-of-two}
 use Rattle.bits.proofs.Storing.{below-or, put-append, put-far, put-none, length-setBit}
 use Rattle.bits.proofs.Places.{weight-pow}
+use Rattle.bits.proofs.Pieces.{put-out}
 use Rattle.bits.proofs.Words.{bits-split}
 
 blend-none : (x d u : ℕ) → blend x 0 d u ≡ x
@@ -130,24 +131,12 @@ unfolding put
 bit-far xs at b h = sym (put-far xs at (b ∷ []) h)
 
 -- nothing is stored past the end
-set-bit-past : (xs : List ℕ) (at : ℕ) (b : Bool) → length xs ≤ at / 8 → setBit xs at b ≡ xs
-unfolding setBit
-set-bit-past xs at b h = go (ltb at limit)
-  where
-    go : (t : Bool) → cond t (set xs (at / 8) (withBit (getD xs (at / 8) 0) (weight (at % 8)) (bit b))) xs ≡ xs
-    go true = set-out xs (at / 8) _ h
-    go false = refl
-
 pub bit-past : (xs : List ℕ) (at : ℕ) (b : Bool) → length xs ≤ at / 8 → xs ≡ setBit xs at b
-bit-past xs at b h = sym (set-bit-past xs at b h)
-
-put-past : (xs : List ℕ) (at : ℕ) (bs : Bits) → length xs ≤ at / 8 → put xs at bs ≡ xs
 unfolding put
-put-past xs at [] h = refl
-put-past xs at (b ∷ bs) h = ap (λ (l : List ℕ). put l (suc at) bs) (set-bit-past xs at b h) ∙ put-past xs (suc at) bs (omega arith)
+bit-past xs at b h = sym (put-out xs at (b ∷ []) (omega arith))
 
 pub stores-past : (xs : List ℕ) (at n v : ℕ) → length xs ≤ at / 8 → xs ≡ put xs at (toBits n v)
-stores-past xs at n v h = sym (put-past xs at (toBits n v) h)
+stores-past xs at n v h = sym (put-out xs at (toBits n v) (omega arith))
 
 -- Of n bits of v to be stored at a place, `left` bits are to go, from `place` on, over the bytes ys.
 pub record Stores (xs : List ℕ) (at n v : ℕ) (ys : List ℕ) (place left : ℕ) : Type 0 where
