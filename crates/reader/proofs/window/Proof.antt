@@ -1,11 +1,12 @@
 use Prim.Native.Nat.{_-_}
 use borrow.Author.Needs.{needs}
-use Rattle.reader.proofs.Windows.{Window, window-all, window-in, window-next, window-low, window-on, window-end}
+use Rattle.bits.proofs.Words.{Window, window-all, window-in, window-next, window-on}
+use Rattle.reader.proofs.Windows.{window-low, window-five}
 use Rattle.reader.proofs.window.Statement.{statement}
 use Rattle.reader.proofs.window.Tie as tie
 
 abbrev Inv-loop : tie.InvT-loop
-Inv-loop s i v₀ j₀ k₀ v j k = Window s i v k j
+Inv-loop s i v₀ j₀ k₀ v j k = Window 5 s i v k j
 
 abbrev μ-loop : tie.MeasureT-loop
 μ-loop s i v₀ j₀ k₀ v j k = 5 - k
@@ -20,4 +21,4 @@ window-spec =
     (λ c. search window-in) (λ c κs. search window-low)
     (λ c. record { fits = search window-next })
     (λ c. search needs) (λ c. search needs) (λ c. search window-on)
-    (λ c. search window-end))
+    (λ c. search window-five))
