@@ -220,6 +220,10 @@ mark-run false = refl
 pub mark-field : {b : Bool} {c : Cursor} {xs ys : List ℕ} {u : Step} → Walked (field 1 (boolByte b) 0 0) c xs u ys → Walked (mark b) c xs u ys
 mark-field {b} g = as-run (mark-run b) g
 
+-- a zero is a flag that is not set
+pub zero-mark : {c : Cursor} {xs ys : List ℕ} {u : Step} → Walked (mark false) c xs u ys → Walked (field 1 0 0 0) c xs u ys
+zero-mark g = as-run (sym (mark-run false)) g
+
 -- One answer, and one content of the bytes
 pub only : {w : Walk} {c : Cursor} {xs ys zs : List ℕ} {s t : Step} → Walked w c xs s ys → Walked w c xs t zs → (s ≡ t) × (ys ≡ zs)
 only (walked a b) (walked e f) = (a ∙ sym e, b ∙ sym f)

@@ -11,10 +11,17 @@ use writer::f;
 use writer::flag;
 use writer::leb128;
 ghost use mathlib.Core.Path.{_≡_};
-ghost use Rattle.bits.specs.Walk.{Walked};
+ghost use Rattle.bits.specs.Walk.{Walked, field};
 ghost use Rattle.obu.specs.Header.{expected-type, obu-extension-header, extension-of, header-end, end-of, obu-header};
 ghost use Rattle.bits.specs.Answers.{counted};
 ghost use Rattle.obu.specs.Frame.{obu-size, bytesFor, trailing-bits};
+
+// A bit that is always 0.
+fn zero(out: &mut [u8], c: Cursor) -> Step
+    ensures { λ s. ⌜ Walked (field 1 0 0 0) c (now (out .entry)) s (now (out .exit)) ⌝ }
+{
+    flag(out, c, false)
+}
 
 // obu_type, which must be t.
 fn expected_type(out: &mut [u8], c: Cursor, obu_type: u32, t: u32) -> Step
@@ -49,7 +56,7 @@ fn header_end(out: &mut [u8], c: Cursor, h: ObuHeader) -> Step
     let Step::Next(c) = s else {
         return s;
     };
-    let s = f(out, c, 1, 0, 0, 0);
+    let s = zero(out, c);
     let Step::Next(c) = s else {
         return s;
     };
@@ -63,7 +70,7 @@ fn header_end(out: &mut [u8], c: Cursor, h: ObuHeader) -> Step
 pub fn obu_header(out: &mut [u8], c: Cursor, h: ObuHeader, t: u32) -> Step
     ensures { λ s. ⌜ Walked (obu-header t .enc h) c (now (out .entry)) s (now (out .exit)) ⌝ }
 {
-    let s = f(out, c, 1, 0, 0, 0);
+    let s = zero(out, c);
     let Step::Next(c) = s else {
         return s;
     };

@@ -17,6 +17,7 @@ use bits::answer::counted;
 use bits::element;
 use obu::answer::Answer;
 use obu::answer::verdict;
+use obu::header::ObuHeader;
 use obu::write::obu_header;
 use obu::write::obu_size;
 use obu::write::trailing_bits;
@@ -32,6 +33,7 @@ ghost use Rattle.sequence.specs.Fields.{general-out, grain-out, tools-ou
 ghost use Rattle.sequence.specs.Timing.{decoder-model-info-if};
 ghost use Rattle.sequence.specs.Sequence.{profile, full-general, reduced-general, general, grain, tools, body, sequence-header-obu, sequence-header};
 ghost use Rattle.obu.specs.Frame.{bitCount, trailing-bits};
+ghost use Rattle.obu.specs.Header.{obu-header};
 ghost use Rattle.obu.specs.Delimiter.{octets};
 ghost use Rattle.obu.specs.Writer.{Writes};
 
@@ -170,6 +172,20 @@ fn write_strings(first: &[u8], second: &[u8], out: &mut [u8]) -> Answer
     answer
 }
 
+// The header, from the start of `out`. (It is copied: lent out of the record, it would keep the compiler from taking the record apart.)
+fn header(out: &mut [u8], h: ObuHeader) -> Step
+    ensures { λ s. ⌜ Walked (obu-header 1 .enc h) (record { at = 0 }) (now (out .entry)) s (now (out .exit)) ⌝ }
+{
+    let copy = ObuHeader {
+        obu_type: h.obu_type,
+        extension_flag: h.extension_flag,
+        has_size_field: h.has_size_field,
+        temporal_id: h.temporal_id,
+        spatial_id: h.spatial_id,
+    };
+    obu_header(out, Cursor { at: 0 }, copy, 1)
+}
+
 // The payload and its trailing bits, from the start of `out`.
 fn padded_payload(out: &mut [u8], h: SequenceHeaderObu) -> Step
     ensures { λ s. ⌜ Walked (sequence-header-obu .enc (sequence-out h) ⊕ trailing-bits (bitCount (sequence-header-obu .enc (sequence-out h)))) (record { at = 0 }) (now (out .entry)) s (now (out .exit)) ⌝ }
@@ -186,7 +202,7 @@ pub fn write_sequence_header(record: SequenceHeaderObu, out: &mut [u8]) -> Answe
     ensures { λ r. ⌜ Writes (sequence-header .enc «record») (now (out .entry)) r (now (out .exit)) ⌝ }
 {
     let mut head = [0u8; 10];
-    let s = obu_header(&mut head, Cursor { at: 0 }, record.obu_header, 1);
+    let s = header(&mut head, record.obu_header);
     let Step::Next(c) = s else {
         return verdict(s, out.len());
     };

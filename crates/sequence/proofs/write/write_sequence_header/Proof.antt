@@ -49,7 +49,7 @@ written-once b k g i l j m o q w = once sequence-header-obu (sequence-out b) 1 (
 abbrev start : tie.After-s3 → tie.Start
 start k = k .before .before .before .before .before .before .before .before .before .before .before .before .before .before .before .before .before .before .before .before
 
-abbrev header : tie.After-s3 → tie.After-obu-header
+abbrev header : tie.After-s3 → tie.After-header
 header k = k .before .before .before .before .before .before .before .before .before .before .before .before .before .before .before .before .before
 
 abbrev header-done : tie.After-s3 → tie.After-s
@@ -68,10 +68,10 @@ abbrev size : tie.After-s3 → tie.After-obu-size
 size k = k .before .before .before
 
 head-fits : tie.Need-array-share-prefix-head
-head-fits c = let k = c .before .before in head-room 1 (start k .args .«record» .«obu_header») (bytes k .counted .result) (header k .obu-header .ensures) (header-done k .s .given .1) (size k .obu-size .ensures) (k .s3 .given .1)
+head-fits c = let k = c .before .before in head-room 1 (start k .args .«record» .«obu_header») (bytes k .counted .result) (header k .header .ensures) (header-done k .s .given .1) (size k .obu-size .ensures) (k .s3 .given .1)
 
 head-counts : tie.Need-slice-aggregate-write-strings
-head-counts c = let k = c .before .before .before in head-count 1 (start k .args .«record» .«obu_header») (bytes k .counted .result) (header k .obu-header .ensures) (header-done k .s .given .1) (size k .obu-size .ensures) (k .s3 .given .1)
+head-counts c = let k = c .before .before .before in head-count 1 (start k .args .«record» .«obu_header») (bytes k .counted .result) (header k .header .ensures) (header-done k .s .given .1) (size k .obu-size .ensures) (k .s3 .given .1)
 
 payload-fits : tie.Need-array-share-prefix-payload
 payload-fits c = let k = c .before .before .before in payload-room sequence-header-obu (sequence-out (start k .args .«record»)) (few (sequence-out (start k .args .«record»))) (payload k .padded-payload .ensures) (payload-done k .s2 .given .1)
@@ -82,7 +82,7 @@ payload-counts c = let k = c .before .before .before .before in payload-count se
 both-few : tie.Need-write-strings-requires
 both-few c κs =
     let k = c .before .before .before .before .before in
-    strings-few (k .s3 .given .0 .0 .at / 8) (payload-done k .s2 .given .0 .0 .at / 8) (header k .obu-header .ensures) (size k .obu-size .ensures) (payload k .padded-payload .ensures)
+    strings-few (k .s3 .given .0 .0 .at / 8) (payload-done k .s2 .given .0 .0 .at / 8) (header k .header .ensures) (size k .obu-size .ensures) (payload k .padded-payload .ensures)
 
 whole : tie.Need-returns-4
 whole c =
@@ -90,7 +90,7 @@ whole c =
     written-once
     (start k .args .«record»)
     (bytes k .counted .result)
-    (header k .obu-header .ensures)
+    (header k .header .ensures)
     (header-done k .s .given .1)
     (payload k .padded-payload .ensures)
     (payload-done k .s2 .given .1)
