@@ -1,29 +1,31 @@
 -- How the functions of 5.9.14 meet their tables.
-use mathlib.Core.Path.{_≡_, refl, sym, _∙_, subst}
+use mathlib.Core.Path.{_≡_, refl, sym, ap, _∙_, subst}
 use mathlib.Core.List.{List, [], _∷_}
 use mathlib.Core.Bool.{Bool, true, false, _&&_}
-use Prim.Native.Nat.{ℕ, zero, suc, _+_, _<_, _≤_, min}
+use Prim.Native.Nat.{ℕ, zero, suc, _+_, _*_, _%_, _^_, _<_, _≤_, min}
 use native.Mathlib.Omega.{arith}
 use lib.ListN.{getD}
 use lib.Dec.{leb, T}
-use lib.IntN.{ℤ, pos, negsuc, natAbs, _-ℤ_}
+use lib.IntN.{ℤ, pos, negsuc, negℤ, natAbs, _-ℤ_}
 use lib.Signed.{mag, leZ, leZ-yes, nonNeg, _≤ℤ_}
 use mir.Syntax.{w16, w32}
 use mir.Val.{Fits, SFits, toZ, ofZ}
-use borrow.Author.Tests.{leb-true}
-use Rattle.bits.specs.Walk.{field, Walked}
-use Rattle.bits.specs.Codec.{f, recode, choose}
-use Rattle.bits.specs.Codes.{su}
+use borrow.Author.Tests.{leb-true, lt-ltb, le-ltb}
+use Rattle.bits.specs.Bits.{bitAt, toBits}
+use Rattle.bits.specs.Walk.{field, Out, wrote, join, run, Walked}
+use Rattle.bits.specs.Codec.{_▷_, f, flag, absent, recode, choose}
+use Rattle.bits.specs.Codes.{su-out, su}
 use Rattle.bits.specs.Elements.{feature-data}
 use Rattle.bits.specs.declared.answer.Cursor.{Cursor}
 use Rattle.bits.specs.declared.answer.Step.{Step}
 use Rattle.bits.proofs.Walking.{yes-lt, no-lt}
 use Rattle.bits.proofs.Signs.{cast-mag}
-use Rattle.parts.specs.Codes.{clip, trimmed, natural, natural-out, zip}
-use Rattle.segmentation.specs.Segmentation.{feature-bits, feature-max, signed-value, unsigned-value, feature-value, feature}
+use Rattle.parts.specs.Codes.{complement, clip, trimmed, natural, natural-out, zip}
+use Rattle.segmentation.specs.Segmentation.{feature-bits, feature-max, signed-value, unsigned-value, feature-value, value-code, feature}
 use Rattle.segmentation.proofs.Clipping.{clip-signed, clip-unsigned, plain}
-use Rattle.parts.proofs.Signs.{word}
+use Rattle.parts.proofs.Signs.{word, double, complement-is}
 use Rattle.parts.proofs.Pairs.{zip-at}
+use Rattle.parts.proofs.Packing.{field-run, both-run, by-field}
 
 -- A test of a whole table, and what it says of each entry.
 every : {A : Type 0} → (A → Bool) → List A → Bool
@@ -95,3 +97,61 @@ module _ (j bits : ℕ) (limit v : ℤ) (i : ℕ) {c : Cursor} {xs ys : List ℕ
 pub feature-at : (flags : List Bool) (values : List ℤ) (i : ℕ) {c : Cursor} {xs ys : List ℕ} {s : Step} → mag (getD values i (pos 0)) < 32768
     → Walked (feature i .enc (getD flags i false, toZ w16 (ofZ w16 (getD values i (pos 0))))) c xs s ys → Walked (feature i .enc (getD (zip false (pos 0) flags values) i (false, pos 0))) c xs s ys
 feature-at flags values i h g = rw (zip-at false (pos 0) flags values i) (rw (word w16 (getD values i (pos 0)) h) at g)
+
+-- The value of a feature as one number
+module _ (j half : ℕ) (limit v r : ℤ) (l : limit ≡ feature-max j) (p : pos 0 ≤ℤ limit) (f : SFits w16 limit) (g : SFits w16 v) where
+  pub code-signed : (k : ℕ) → half ≡ 2 ^ feature-bits j → j < 5 → mag r < 32768 → r ≡ clip (toZ w16 (ofZ w16 (pos 0 -ℤ toZ w16 (ofZ w16 limit)))) (toZ w16 (ofZ w16 limit)) (toZ w16 (ofZ w16 v))
+      → k ≡ complement half (toZ w16 (ofZ w16 r)) → k ≡ value-code j v
+  unfolding value-code
+  code-signed k h b m e q = q ∙ rw (word w16 r m, clip-signed limit p f v r g e, lt-ltb j 5 b, h, l)
+
+  pub code-unsigned : 5 ≤ j → mag r < 32768 → r ≡ clip (pos 0) (toZ w16 (ofZ w16 limit)) (toZ w16 (ofZ w16 v)) → natAbs (toZ w16 (ofZ w16 r)) ≡ value-code j v
+  unfolding value-code
+  code-unsigned b m e = rw (word w16 r m, clip-unsigned limit p f v r g e, le-ltb j 5 b, l)
+
+signed-run : (j i half code : ℕ) (v : ℤ) → half ≡ 2 ^ feature-bits j → j < 5 → code ≡ value-code j v → code < half * 2 → run (feature-value j i .enc v) ≡ wrote (toBits (feature-bits j + 1) code)
+unfolding value-code feature-value choose signed-value trimmed su recode f run
+signed-run j i half code v h b e l =
+    let z = clip (negℤ (feature-max j)) (feature-max j) v in
+    let q : su-out (feature-bits j + 1) z ≡ code = sym (complement-is (feature-bits j) (2 ^ feature-bits j) z refl) ∙ sym (rw (lt-ltb j 5 b) at e) in
+    rw (lt-ltb j 5 b, q) (field-run (feature-bits j + 1) code feature-data i (rw (double (feature-bits j) half h) l))
+
+unsigned-run : (j i half code : ℕ) (v : ℤ) → half ≡ 2 ^ feature-bits j → 5 ≤ j → code ≡ value-code j v → code < half → run (feature-value j i .enc v) ≡ wrote (toBits (feature-bits j) code)
+unfolding value-code feature-value choose unsigned-value trimmed natural recode f run
+unsigned-run j i half code v h b e l =
+    let q : natural-out (feature-bits j) (clip (pos 0) (feature-max j) v) ≡ code = out-plain (feature-bits j) (clip (pos 0) (feature-max j) v) (plain (feature-max j) v (max-plain j)) ∙ sym (rw (le-ltb j 5 b) at e) in
+    rw (le-ltb j 5 b, q) (field-run (feature-bits j) code feature-data i (rw (← h) l))
+
+-- a set flag and n bits behind it
+flagged : (n top code : ℕ) {o : Out} → top ≡ 2 ^ n → o ≡ wrote (toBits n code) → code < top → join (wrote (true ∷ [])) o ≡ wrote (toBits (n + 1) (top + code))
+unfolding toBits bitAt
+flagged n top code h k l =
+    let a : 1 + n ≡ n + 1 = omega arith in
+    let b : 1 * 2 ^ n + code ≡ top + code = omega arith in
+    rw (a, b) at (both-run 1 n 1 code refl k (rw (← h) l))
+
+top-fits : (n top code : ℕ) → top ≡ 2 ^ n → code < top → top + code < 2 ^ (n + 1)
+top-fits n top code h l = omega (arith, double n top h)
+
+-- the power of the table's bits
+pub half-is : (j bits half : ℕ) → bits ≡ feature-bits j → half ≡ 2 ^ bits → half ≡ 2 ^ feature-bits j
+half-is j bits half b h = h ∙ ap (λ (n : ℕ). 2 ^ n) b
+
+pub apart : (on : Bool) (v : ℤ) (i : ℕ) {c : Cursor} {xs ys : List ℕ} {s : Step} → mag v < 32768 → Walked (feature i .enc (on, toZ w16 (ofZ w16 v))) c xs s ys → Walked (feature i .enc (on, v)) c xs s ys
+apart on v i m g = rw (word w16 v m) at g
+
+-- the whole of a feature that is enabled
+module _ (on : Bool) (v : ℤ) (i bits half code : ℕ) {e k : ℕ} {c : Cursor} {xs ys : List ℕ} {s : Step} (t : on ≡ true) (m : mag v < 32768) (b : bits ≡ feature-bits (i % 8)) (h : half ≡ 2 ^ bits) (q : code ≡ value-code (i % 8) (toZ w16 (ofZ w16 v))) where
+  pub packed-signed : i % 8 < 5 → code < half * 2 → Walked (field (bits + 2) (half * 2 + code) e k) c xs s ys → Walked (feature i .enc (on, v)) c xs s ys
+  unfolding feature _▷_ choose flag absent run
+  packed-signed j l g =
+      let n : bits + 2 ≡ bits + 1 + 1 = omega arith in
+      let x = rw (← b) at (signed-run (i % 8) i half code v (half-is (i % 8) bits half b h) j (q ∙ ap (value-code (i % 8)) (word w16 v m)) l) in
+      let d = sym (double bits half h) in
+      rw t (by-field (bits + 2) (half * 2 + code) (rw n (flagged (bits + 1) (half * 2) code d x l)) (rw n (top-fits (bits + 1) (half * 2) code d l)) g)
+
+  pub packed-unsigned : 5 ≤ i % 8 → code < half → Walked (field (bits + 1) (half + code) e k) c xs s ys → Walked (feature i .enc (on, v)) c xs s ys
+  unfolding feature _▷_ choose flag absent run
+  packed-unsigned j l g =
+      let x = rw (← b) at (unsigned-run (i % 8) i half code v (half-is (i % 8) bits half b h) j (q ∙ ap (value-code (i % 8)) (word w16 v m)) l) in
+      rw t (by-field (bits + 1) (half + code) (flagged bits half code h x l) (top-fits bits half code h l) g)

@@ -11,19 +11,20 @@ use parts::inferred::inferred_flag;
 use parts::place::lend;
 use parts::place::settle;
 use parts::place::start;
+use parts::signed::complement;
 use writer::demand;
 use writer::f;
 use writer::flag;
 use writer::su16;
 ghost use mathlib.Core.Path.{_≡_};
-ghost use Prim.Native.Nat.{_<_, _≤_};
+ghost use Prim.Native.Nat.{_<_, _≤_, _^_};
 ghost use lib.IntN.{pos};
 ghost use lib.Signed.{_≤ℤ_};
 ghost use Rattle.bits.specs.Walk.{Walked};
 ghost use Rattle.parts.specs.Written.{Writes};
 ghost use Rattle.bits.specs.Elements.{feature-data};
 ghost use Rattle.parts.specs.Codes.{clip, inferredSigned};
-ghost use Rattle.segmentation.specs.Segmentation.{feature-bits, feature-max, signed-value, unsigned-value, feature-value, feature, features, features-out, no-flags, no-data, features-if, temporal-update, coded-updates, inferred-updates, updates-out, with-reference, without-reference, enabled-out, segmentation-params};
+ghost use Rattle.segmentation.specs.Segmentation.{feature-bits, feature-max, signed-value, unsigned-value, feature-value, value-code, feature, features, features-out, no-flags, no-data, features-if, temporal-update, coded-updates, inferred-updates, updates-out, with-reference, without-reference, enabled-out, segmentation-params};
 
 // Eight features of eight segments, segment by segment.
 pub struct SegmentationParams {
@@ -99,7 +100,8 @@ fn feature_value(out: &mut [u8], c: Cursor, j: usize, v: i16, i: u8) -> Step
     unsigned_value(out, c, bits, limit, v, i)
 }
 
-fn feature(out: &mut [u8], c: Cursor, enabled: bool, v: i16, i: usize) -> Step
+// The flag, and then the value.
+fn feature_apart(out: &mut [u8], c: Cursor, enabled: bool, v: i16, i: usize) -> Step
     requires { ⌜ i < 64 ⌝ }
     ensures { λ s. ⌜ Walked (feature i .enc (enabled, v)) c (now (out .entry)) s (now (out .exit)) ⌝ }
 {
@@ -111,6 +113,49 @@ fn feature(out: &mut [u8], c: Cursor, enabled: bool, v: i16, i: usize) -> Step
         return feature_value(out, c, i % 8, v, i as u8);
     }
     Step::Next(c)
+}
+
+fn pow2(n: u32) -> u32
+    requires { ⌜ n ≤ 8 ⌝ }
+    ensures { λ r. ⌜ r ≡ 2 ^ n ⌝ }
+    ensures { λ r. ⌜ r ≤ 256 ⌝ }
+{
+    1u32 << n
+}
+
+// The bits of a feature's value as a number; half is 2 to the power of its bits.
+fn value_code(j: usize, half: u32, v: i16) -> u32
+    requires { ⌜ (j < 8) × ((half ≡ 2 ^ feature-bits j) × (half ≤ 32768)) ⌝ }
+    ensures { λ r. ⌜ r ≡ value-code j v ⌝ }
+{
+    let limit = feature_max(j);
+    if j < 5 {
+        return complement(clip3(-limit, limit, v), half);
+    }
+    clip3(0, limit, v) as u32
+}
+
+// A set flag and the value are one field.
+fn feature(out: &mut [u8], c: Cursor, enabled: bool, v: i16, i: usize) -> Step
+    requires { ⌜ i < 64 ⌝ }
+    ensures { λ s. ⌜ Walked (feature i .enc (enabled, v)) c (now (out .entry)) s (now (out .exit)) ⌝ }
+{
+    if enabled {
+        let j = i % 8;
+        let bits = feature_bits(j);
+        let half = pow2(bits);
+        let code = value_code(j, half, v);
+        if j < 5 {
+            if code < half * 2 {
+                return f(out, c, bits + 2, half * 2 + code, FEATURE_DATA, i as u8);
+            }
+        } else {
+            if code < half {
+                return f(out, c, bits + 1, half + code, FEATURE_DATA, i as u8);
+            }
+        }
+    }
+    feature_apart(out, c, enabled, v, i)
 }
 
 fn features(out: &mut [u8], c: Cursor, p: SegmentationParams) -> Step

@@ -1,16 +1,13 @@
 use borrow.Author.Needs.{needs}
-use Rattle.bits.specs.Codec.{_▷_, choose, flag, absent}
-use Rattle.segmentation.specs.Segmentation.{feature}
-use Rattle.bits.proofs.Walking.{walk}
-use Rattle.parts.proofs.Signs.{given-16}
+use Rattle.segmentation.proofs.Steps.{half-is, packed-signed, packed-unsigned, apart}
 use Rattle.segmentation.proofs.feature.Statement.{statement}
 use Rattle.segmentation.proofs.feature.Tie as tie
 
 pub feature-spec : {M : Type 1} → statement M
-unfolding feature _▷_ choose flag absent
 feature-spec =
     tie.close
     (tie.spec
-    (λ c κs. search needs) (λ c. search needs) (λ c. search needs) (λ c. search needs) (λ c. search (walk, given-16) depth 14)
-    (λ c. search needs) (λ c κs. search needs) (λ c. search needs) (λ c. search (walk, given-16) depth 14)
-    (λ c. search needs) (λ c. search (walk, given-16) depth 14))
+    (λ c κs. search needs) (λ c κs. search needs) (λ c κs. search (needs, half-is)) (λ c. search needs)
+    (λ c. search needs) (λ c. search needs) (λ c. search needs) (λ c. search needs) (λ c κs. search needs) (λ c. search needs) (λ c. search packed-signed)
+    (λ c. search needs) (λ c. search needs) (λ c. search needs) (λ c κs. search needs) (λ c. search needs) (λ c. search packed-unsigned)
+    (λ c κs. search needs) (λ c. search needs) (λ c. search apart))
