@@ -9,14 +9,14 @@ use lib.ListN.{getD}
 use lib.Dec.{eqb, ltb, lit<}
 use borrow.Author.Tests.{lt-ltb, le-ltb, eq-eqb, ne-eqb, ltb-true, eqb-true}
 use Rattle.bits.specs.Bits.{toBits}
-use Rattle.bits.specs.Walk.{none, field, either, _⊕_, wrote, join, run, Walked}
+use Rattle.bits.specs.Walk.{Walk, none, field, either, _⊕_, wrote, join, run, Walked}
 use Rattle.bits.specs.Codec.{Codec, f, absent, choose, checked, recode, via, array, uncons, _▷_}
 use Rattle.bits.specs.Elements.{cdef-y-pri-strength, cdef-y-sec-strength, cdef-uv-pri-strength, cdef-uv-sec-strength, cdef-damping}
 use Rattle.bits.specs.declared.answer.Cursor.{Cursor}
 use Rattle.bits.specs.declared.answer.Refusal.the-variants.{Inconsistent, Unfit}
 use Rattle.bits.specs.declared.answer.Step.{Step}
 use Rattle.bits.specs.declared.answer.Step.the-variants.{Refused}
-use Rattle.bits.proofs.Walking.{as-run, field-refused, halt-here, held-then, broken}
+use Rattle.bits.proofs.Walking.{as-run, after-none, field-refused, halt-here, held-then, broken}
 use Rattle.bits.proofs.Storing.{below-or}
 use Rattle.bits.proofs.Loops.{array-first}
 use Rattle.cdef.specs.Cdef as table
@@ -78,6 +78,10 @@ packed-run pe se i p s r e h = go (ltb p 16) (ltb s 3) (eqb s 4) refl refl refl 
     go true false false a b d k = absurd (omega arith)
     go false u v a b d k = absurd (omega arith)
 
+alone : {v w : Walk} {c : Cursor} {xs ys : List ℕ} {s : Step} → Walked v c xs s ys → Walked (v ⊕ either true none w) c xs s ys
+unfolding run
+alone {v} {w} g = as-run refl (after-none g)
+
 module _ (p : CdefParams) {c : Cursor} {xs ys : List ℕ} {s : Step} where
   pub strengths-by : (planes i : ℕ)
       → Walked (strength cdef-y-pri-strength cdef-y-sec-strength i .enc (getD (p .«cdef_y_pri_strength») i 0, getD (p .«cdef_y_sec_strength») i 0)
@@ -94,6 +98,12 @@ module _ (p : CdefParams) {c : Cursor} {xs ys : List ℕ} {s : Step} where
       let x = packed-run cdef-y-pri-strength cdef-y-sec-strength i (getD (p .«cdef_y_pri_strength») i 0) (getD (p .«cdef_y_sec_strength») i 0) y a k in
       let z = packed-run cdef-uv-pri-strength cdef-uv-sec-strength i (getD (p .«cdef_uv_pri_strength») i 0) (getD (p .«cdef_uv_sec_strength») i 0) uv b l in
       strengths-by planes i (by-field 12 (y * 64 + uv) (both-run 6 6 y uv x (rw (ne-eqb planes 1 h) z) l) (omega arith) g)
+
+  pub luma-packed : (planes i y : ℕ) {e j : ℕ} → planes ≡ 1 → y ≡ packed (getD (p .«cdef_y_pri_strength») i 0) (getD (p .«cdef_y_sec_strength») i 0) → y < 64
+      → Walked (field 6 y e j) c xs s ys → Walked (strengths planes i .enc (getD (strengths-out p) i table.none)) c xs s ys
+  luma-packed planes i y h a k g =
+      let x = packed-run cdef-y-pri-strength cdef-y-sec-strength i (getD (p .«cdef_y_pri_strength») i 0) (getD (p .«cdef_y_sec_strength») i 0) y a k in
+      strengths-by planes i (rw (eq-eqb planes 1 h) (alone (by-field 6 y x k g)))
 
   pub no-strengths-by :
       Walked (no-strength cdef-y-pri-strength cdef-y-sec-strength .enc (getD (p .«cdef_y_pri_strength») 0 0, getD (p .«cdef_y_sec_strength») 0 0)

@@ -122,8 +122,12 @@ fn strengths(out: &mut [u8], c: Cursor, planes: u32, p: CdefParams, i: usize) ->
     ensures { λ s. ⌜ Walked (strengths planes i .enc (getD (strengths-out p) i none)) c (now (out .entry)) s (now (out .exit)) ⌝ }
 {
     let y = packed(p.cdef_y_pri_strength[i], p.cdef_y_sec_strength[i]);
-    let uv = packed(p.cdef_uv_pri_strength[i], p.cdef_uv_sec_strength[i]);
-    if planes != 1 {
+    if planes == 1 {
+        if y < 64 {
+            return f(out, c, 6, y, CDEF_Y_PRI_STRENGTH, i as u8);
+        }
+    } else {
+        let uv = packed(p.cdef_uv_pri_strength[i], p.cdef_uv_sec_strength[i]);
         if y < 64 {
             if uv < 64 {
                 return f(out, c, 12, y * 64 + uv, CDEF_Y_PRI_STRENGTH, i as u8);

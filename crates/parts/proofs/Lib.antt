@@ -1,6 +1,6 @@
+pub mod Packing
 pub mod Signs
 pub mod Pairs
 pub mod Flags
 pub mod Writing
-pub mod Packing
 pub mod Laws

@@ -1,15 +1,16 @@
 -- Fields one behind another, stored as one.
-use mathlib.Core.Path.{_≡_, sym, ap, _∙_}
+use mathlib.Core.Path.{_≡_, refl, sym, ap, _∙_}
 use mathlib.Core.List.{List, _∷_, _++_}
+use mathlib.Core.Bool.{true}
 use Prim.Native.Nat.{ℕ, zero, suc, _+_, _*_, _^_, _/_, _%_, _<_}
 use native.Mathlib.Omega.{arith}
 use native.Mathlib.Nat.{zero-add, suc-add, add-comm}
 use lib.Arith.{digits-div, digits-mod}
 use lib.Dec.{eqb}
-use lib.Pow.{shr-shr}
+use lib.Pow.{shr-shr, pow-add}
 use borrow.Author.Tests.{lt-ltb}
 use Rattle.bits.specs.Bits.{Bits, bitAt, toBits}
-use Rattle.bits.specs.Walk.{Walk, field, Out, wrote, join, run, Walked}
+use Rattle.bits.specs.Walk.{Walk, field, mark, _⊕_, Out, wrote, join, run, Walked}
 use Rattle.bits.specs.declared.answer.Cursor.{Cursor}
 use Rattle.bits.specs.declared.answer.Step.{Step}
 use Rattle.bits.proofs.Laws.{joined}
@@ -39,3 +40,15 @@ both-run n m a b h k l = joined h k ∙ ap (λ (x : Bits). wrote x) (sym (bits-j
 -- a walk that writes a number, by one field
 pub by-field : (n a : ℕ) {e i : ℕ} {w : Walk} {c : Cursor} {xs ys : List ℕ} {s : Step} → run w ≡ wrote (toBits n a) → a < 2 ^ n → Walked (field n a e i) c xs s ys → Walked w c xs s ys
 by-field n a {e} {i} h l g = as-run (field-run n a e i l ∙ sym h) g
+
+pub double : (n half : ℕ) → half ≡ 2 ^ n → 2 ^ (n + 1) ≡ half * 2
+double n half h = rw (pow-add 2 n 1, h)
+
+-- a set flag and a walk that writes a number of n bits
+pub flag-field : (n top code : ℕ) {e i : ℕ} {w : Walk} {c : Cursor} {xs ys : List ℕ} {s : Step} → top ≡ 2 ^ n → run w ≡ wrote (toBits n code) → code < top
+    → Walked (field (n + 1) (top + code) e i) c xs s ys → Walked (mark true ⊕ w) c xs s ys
+unfolding run toBits bitAt
+flag-field n top code h k l g =
+    let a : 1 + n ≡ n + 1 = omega arith in
+    let b : 1 * 2 ^ n + code ≡ top + code = omega arith in
+    by-field (n + 1) (top + code) (rw (a, b) at (both-run 1 n 1 code refl k (rw (← h) l))) (omega (arith, double n top h)) g

@@ -1,12 +1,12 @@
 -- How read_delta_q meets its table.
-use mathlib.Core.Path.{_≡_, ap}
+use mathlib.Core.Path.{_≡_, refl, ap}
 use mathlib.Core.List.{List}
 use mathlib.Core.Bool.{Bool, true, false, not}
-use Prim.Native.Nat.{ℕ, min}
+use Prim.Native.Nat.{ℕ, _+_, _<_, min}
 use lib.IntN.{ℤ, pos}
-use mir.Syntax.{w8}
+use mir.Syntax.{w8, w16}
 use mir.Val.{SFits, toZ, ofZ}
-use Rattle.bits.specs.Walk.{Walked, mark, _⊕_}
+use Rattle.bits.specs.Walk.{Walked, field, mark, run, _⊕_}
 use Rattle.bits.specs.Codec.{merged, _▷_, flag, choose, absent}
 use Rattle.bits.specs.Codes.{su}
 use Rattle.bits.specs.Elements.{delta-q-u-dc, delta-q-u-ac}
@@ -14,10 +14,12 @@ use Rattle.bits.specs.declared.answer.Cursor.{Cursor}
 use Rattle.bits.specs.declared.answer.Refusal.{Refusal}
 use Rattle.bits.specs.declared.answer.Step.{Step}
 use Rattle.bits.specs.declared.answer.Step.the-variants.{Next, Refused}
-use Rattle.parts.specs.Codes.{same}
+use Rattle.bits.proofs.Signs.{widened}
+use Rattle.parts.specs.Codes.{same, complement}
 use Rattle.quantization.specs.Quantization.{read-delta-q, v-deltas, uv-deltas}
 use Rattle.parts.proofs.Flags.{clear, set-halt, set-then}
-use Rattle.parts.proofs.Signs.{same-eq, same-ne, word, word-is, zero-fits}
+use Rattle.parts.proofs.Signs.{same-eq, same-ne, word, word-is, zero-fits, complement-run}
+use Rattle.parts.proofs.Packing.{flag-field}
 
 module _ (z : ℤ) (f : SFits w8 z) where
   is-zero : ofZ w8 z ≡ 0 → same z (pos 0) ≡ true
@@ -30,6 +32,12 @@ module _ (e : ℕ) (z : ℤ) {c : Cursor} {xs ys : List ℕ} {s : Step} (f : SFi
   pub delta-zero : ofZ w8 z ≡ 0 → Walked (mark false) c xs s ys → Walked (read-delta-q e .enc z) c xs s ys
   unfolding read-delta-q merged _▷_ flag choose absent
   delta-zero h g = clear (ap not (is-zero z f h)) g
+
+  pub delta-packed : (code : ℕ) {i k : ℕ} → (ofZ w8 z ≡ 0 → ⊥) → code ≡ complement 64 (toZ w16 (ofZ w16 (toZ w8 (ofZ w8 z)))) → code < 128 → Walked (field 8 (128 + code) i k) c xs s ys → Walked (read-delta-q e .enc z) c xs s ys
+  unfolding read-delta-q merged _▷_ flag choose absent run
+  delta-packed code h q l g =
+      let x = complement-run 6 64 code e 0 z refl (rw (widened w8 z f w16 tt) at q) l in
+      rw (not-zero z f h) (flag-field 7 128 code refl x l g)
 
   pub delta-halt : {r : Refusal} → (ofZ w8 z ≡ 0 → ⊥) → Walked (mark true) c xs s ys → s ≡ Refused r → Walked (read-delta-q e .enc z) c xs s ys
   unfolding read-delta-q merged _▷_ flag choose absent

@@ -16,6 +16,7 @@ use parts::inferred::inferred_delta;
 use parts::place::lend;
 use parts::place::settle;
 use parts::place::start;
+use parts::signed::complement;
 use writer::demand;
 use writer::f;
 use writer::flag;
@@ -44,12 +45,16 @@ pub struct QuantizationContext {
     pub separate_uv_delta_q: bool,
 }
 
-// 5.9.13.
+// 5.9.13. A set flag and a delta that fits are one field.
 fn read_delta_q(out: &mut [u8], c: Cursor, delta: i8, element: u8) -> Step
     ensures { λ s. ⌜ Walked (read-delta-q element .enc delta) c (now (out .entry)) s (now (out .exit)) ⌝ }
 {
     if delta == 0 {
         return flag(out, c, false);
+    }
+    let code = complement(delta as i16, 64);
+    if code < 128 {
+        return f(out, c, 8, 128 + code, element, 0);
     }
     let s = flag(out, c, true);
     let Step::Next(c) = s else {

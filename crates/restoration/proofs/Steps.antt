@@ -2,21 +2,22 @@
 use mathlib.Core.Path.{_≡_, ap}
 use mathlib.Core.List.{List}
 use mathlib.Core.Bool.{Bool, true, false, not}
-use Prim.Native.Nat.{ℕ, _-_}
+use Prim.Native.Nat.{ℕ, _+_, _-_, _*_, _<_}
 use native.Mathlib.Omega.{arith}
 use borrow.Author.Tests.{lt-ltb, le-ltb, eq-eqb, ne-eqb}
-use Rattle.bits.specs.Walk.{field, mark, Walked}
+use Rattle.bits.specs.Walk.{field, mark, run, Walked}
 use Rattle.bits.specs.Codec.{f, flag, absent, choose, checked, recode, merged, _▷_}
-use Rattle.bits.specs.Elements.{lr-unit-shift}
+use Rattle.bits.specs.Elements.{frame-restoration-type, lr-unit-shift}
 use Rattle.bits.specs.declared.answer.Cursor.{Cursor}
 use Rattle.bits.specs.declared.answer.Refusal.{Refusal}
 use Rattle.bits.specs.declared.answer.Refusal.the-variants.{Inconsistent}
 use Rattle.bits.specs.declared.answer.Step.{Step}
 use Rattle.bits.specs.declared.answer.Step.the-variants.{Next, Refused}
 use Rattle.bits.proofs.Walking.{halt-here, held-then, broken}
-use Rattle.restoration.specs.Restoration.{large-shift, small-shift, uv-shift, used, chroma-used, Uses, uses}
+use Rattle.restoration.specs.Restoration.{large-shift, small-shift, uv-shift, used, chroma-used, Uses, uses, kinds}
 use Rattle.restoration.specs.declared.LoopRestorationContext.{LoopRestorationContext}
 use Rattle.parts.proofs.Flags.{clear, set-halt, set-then}
+use Rattle.parts.proofs.Packing.{field-run, both-run, by-field}
 
 module _ (v : ℕ) {c : Cursor} {xs : List ℕ} where
   pub large-zero : v ≡ 0 → Walked (large-shift .enc v) c xs (Refused (Inconsistent lr-unit-shift 0)) xs
@@ -59,3 +60,11 @@ used-not y chroma h = rw (eq-eqb y 0 h)
 
 pub used-yes : (y : ℕ) (chroma : Bool) → (y ≡ 0 → ⊥) → true ≡ used y chroma
 used-yes y chroma h = rw (ne-eqb y 0 h)
+
+-- the three kinds in one field
+pub kinds-packed : (y u v : ℕ) {e i : ℕ} {c : Cursor} {xs ys : List ℕ} {s : Step} → y < 4 → u < 4 → v < 4 → Walked (field 6 (y * 16 + (u * 4 + v)) e i) c xs s ys → Walked (kinds .enc (y, (u, v))) c xs s ys
+unfolding kinds _▷_ f run
+kinds-packed y u v h k l g =
+    let kind = frame-restoration-type in
+    let x = both-run 2 2 u v (field-run 2 u kind 1 k) (field-run 2 v kind 2 l) l in
+    by-field 6 (y * 16 + (u * 4 + v)) (both-run 2 4 y (u * 4 + v) (field-run 2 y kind 0 h) x (omega arith)) (omega arith) g

@@ -139,7 +139,8 @@ fn chroma_used(u: u32, v: u32) -> bool
     if u == 0 { v != 0 } else { true }
 }
 
-fn kinds(out: &mut [u8], c: Cursor, p: LoopRestorationParams) -> Step
+// Field by field.
+fn kinds_apart(out: &mut [u8], c: Cursor, p: LoopRestorationParams) -> Step
     ensures { λ s. ⌜ Walked (kinds .enc (kinds-out p)) c (now (out .entry)) s (now (out .exit)) ⌝ }
 {
     let s = f(
@@ -172,6 +173,22 @@ fn kinds(out: &mut [u8], c: Cursor, p: LoopRestorationParams) -> Step
         FRAME_RESTORATION_TYPE,
         2,
     )
+}
+
+fn kinds(out: &mut [u8], c: Cursor, p: LoopRestorationParams) -> Step
+    ensures { λ s. ⌜ Walked (kinds .enc (kinds-out p)) c (now (out .entry)) s (now (out .exit)) ⌝ }
+{
+    let y = p.frame_restoration_type[0];
+    let u = p.frame_restoration_type[1];
+    let v = p.frame_restoration_type[2];
+    if y < 4 {
+        if u < 4 {
+            if v < 4 {
+                return f(out, c, 6, y * 16 + (u * 4 + v), FRAME_RESTORATION_TYPE, 0);
+            }
+        }
+    }
+    kinds_apart(out, c, p)
 }
 
 fn three_planes(

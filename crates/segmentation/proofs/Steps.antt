@@ -11,10 +11,10 @@ use lib.Signed.{mag, leZ, leZ-yes, nonNeg, _≤ℤ_}
 use mir.Syntax.{w16, w32}
 use mir.Val.{Fits, SFits, toZ, ofZ}
 use borrow.Author.Tests.{leb-true, lt-ltb, le-ltb}
-use Rattle.bits.specs.Bits.{bitAt, toBits}
-use Rattle.bits.specs.Walk.{field, Out, wrote, join, run, Walked}
+use Rattle.bits.specs.Bits.{toBits}
+use Rattle.bits.specs.Walk.{field, wrote, run, Walked}
 use Rattle.bits.specs.Codec.{_▷_, f, flag, absent, recode, choose}
-use Rattle.bits.specs.Codes.{su-out, su}
+use Rattle.bits.specs.Codes.{su}
 use Rattle.bits.specs.Elements.{feature-data}
 use Rattle.bits.specs.declared.answer.Cursor.{Cursor}
 use Rattle.bits.specs.declared.answer.Step.{Step}
@@ -23,9 +23,9 @@ use Rattle.bits.proofs.Signs.{cast-mag}
 use Rattle.parts.specs.Codes.{complement, clip, trimmed, natural, natural-out, zip}
 use Rattle.segmentation.specs.Segmentation.{feature-bits, feature-max, signed-value, unsigned-value, feature-value, value-code, feature}
 use Rattle.segmentation.proofs.Clipping.{clip-signed, clip-unsigned, plain}
-use Rattle.parts.proofs.Signs.{word, double, complement-is}
+use Rattle.parts.proofs.Signs.{word, complement-run}
 use Rattle.parts.proofs.Pairs.{zip-at}
-use Rattle.parts.proofs.Packing.{field-run, both-run, by-field}
+use Rattle.parts.proofs.Packing.{field-run, double, flag-field}
 
 -- A test of a whole table, and what it says of each entry.
 every : {A : Type 0} → (A → Bool) → List A → Bool
@@ -110,28 +110,15 @@ module _ (j half : ℕ) (limit v r : ℤ) (l : limit ≡ feature-max j) (p : pos
   code-unsigned b m e = rw (word w16 r m, clip-unsigned limit p f v r g e, le-ltb j 5 b, l)
 
 signed-run : (j i half code : ℕ) (v : ℤ) → half ≡ 2 ^ feature-bits j → j < 5 → code ≡ value-code j v → code < half * 2 → run (feature-value j i .enc v) ≡ wrote (toBits (feature-bits j + 1) code)
-unfolding value-code feature-value choose signed-value trimmed su recode f run
+unfolding value-code feature-value choose signed-value trimmed run
 signed-run j i half code v h b e l =
-    let z = clip (negℤ (feature-max j)) (feature-max j) v in
-    let q : su-out (feature-bits j + 1) z ≡ code = sym (complement-is (feature-bits j) (2 ^ feature-bits j) z refl) ∙ sym (rw (lt-ltb j 5 b) at e) in
-    rw (lt-ltb j 5 b, q) (field-run (feature-bits j + 1) code feature-data i (rw (double (feature-bits j) half h) l))
+    rw (lt-ltb j 5 b) (complement-run (feature-bits j) half code feature-data i (clip (negℤ (feature-max j)) (feature-max j) v) h (rw (lt-ltb j 5 b, ← h) at e) l)
 
 unsigned-run : (j i half code : ℕ) (v : ℤ) → half ≡ 2 ^ feature-bits j → 5 ≤ j → code ≡ value-code j v → code < half → run (feature-value j i .enc v) ≡ wrote (toBits (feature-bits j) code)
 unfolding value-code feature-value choose unsigned-value trimmed natural recode f run
 unsigned-run j i half code v h b e l =
     let q : natural-out (feature-bits j) (clip (pos 0) (feature-max j) v) ≡ code = out-plain (feature-bits j) (clip (pos 0) (feature-max j) v) (plain (feature-max j) v (max-plain j)) ∙ sym (rw (le-ltb j 5 b) at e) in
     rw (le-ltb j 5 b, q) (field-run (feature-bits j) code feature-data i (rw (← h) l))
-
--- a set flag and n bits behind it
-flagged : (n top code : ℕ) {o : Out} → top ≡ 2 ^ n → o ≡ wrote (toBits n code) → code < top → join (wrote (true ∷ [])) o ≡ wrote (toBits (n + 1) (top + code))
-unfolding toBits bitAt
-flagged n top code h k l =
-    let a : 1 + n ≡ n + 1 = omega arith in
-    let b : 1 * 2 ^ n + code ≡ top + code = omega arith in
-    rw (a, b) at (both-run 1 n 1 code refl k (rw (← h) l))
-
-top-fits : (n top code : ℕ) → top ≡ 2 ^ n → code < top → top + code < 2 ^ (n + 1)
-top-fits n top code h l = omega (arith, double n top h)
 
 -- the power of the table's bits
 pub half-is : (j bits half : ℕ) → bits ≡ feature-bits j → half ≡ 2 ^ bits → half ≡ 2 ^ feature-bits j
@@ -147,11 +134,10 @@ module _ (on : Bool) (v : ℤ) (i bits half code : ℕ) {e k : ℕ} {c : Cursor}
   packed-signed j l g =
       let n : bits + 2 ≡ bits + 1 + 1 = omega arith in
       let x = rw (← b) at (signed-run (i % 8) i half code v (half-is (i % 8) bits half b h) j (q ∙ ap (value-code (i % 8)) (word w16 v m)) l) in
-      let d = sym (double bits half h) in
-      rw t (by-field (bits + 2) (half * 2 + code) (rw n (flagged (bits + 1) (half * 2) code d x l)) (rw n (top-fits (bits + 1) (half * 2) code d l)) g)
+      rw t (flag-field (bits + 1) (half * 2) code (sym (double bits half h)) x l (rw n at g))
 
   pub packed-unsigned : 5 ≤ i % 8 → code < half → Walked (field (bits + 1) (half + code) e k) c xs s ys → Walked (feature i .enc (on, v)) c xs s ys
   unfolding feature _▷_ choose flag absent run
   packed-unsigned j l g =
       let x = rw (← b) at (unsigned-run (i % 8) i half code v (half-is (i % 8) bits half b h) j (q ∙ ap (value-code (i % 8)) (word w16 v m)) l) in
-      rw t (by-field (bits + 1) (half + code) (flagged bits half code h x l) (top-fits bits half code h l) g)
+      rw t (flag-field bits half code h x l g)

@@ -1,5 +1,5 @@
 use borrow.Author.Needs.{needs}
-use Rattle.cdef.proofs.Steps.{strengths-packed}
+use Rattle.cdef.proofs.Steps.{luma-packed, strengths-packed}
 use Rattle.cdef.proofs.strengths.Statement.{statement}
 use Rattle.cdef.proofs.strengths.Tie as tie
 
@@ -8,6 +8,7 @@ strengths-spec =
     tie.close
     (tie.spec
     (λ c. search needs) (λ c. search needs) (λ c. search needs) (λ c. search needs) (λ c κs. search needs)
+    (λ c. search needs) (λ c κs. search needs) (λ c. search needs) (λ c. search luma-packed)
     (λ c. search needs) (λ c. search needs) (λ c. search needs) (λ c. search needs) (λ c κs. search needs)
     (λ c. search needs) (λ c. search needs) (λ c. search needs) (λ c κs. search needs) (λ c. search needs) (λ c. search strengths-packed)
     (λ c κs. search needs) (λ c. search needs) (λ c. search needs))

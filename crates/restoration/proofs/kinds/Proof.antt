@@ -1,15 +1,12 @@
 use borrow.Author.Needs.{needs}
-use Rattle.bits.specs.Codec.{_▷_, f}
-use Rattle.restoration.specs.Restoration.{kinds}
-use Rattle.bits.proofs.Walking.{walk}
+use Rattle.restoration.proofs.Steps.{kinds-packed}
 use Rattle.restoration.proofs.kinds.Statement.{statement}
 use Rattle.restoration.proofs.kinds.Tie as tie
 
 pub kinds-spec : {M : Type 1} → statement M
-unfolding kinds _▷_ f
 kinds-spec =
     tie.close
     (tie.spec
-    (λ c. search needs) (λ c κs. search needs) (λ c. search needs) (λ c. search needs) (λ c. search needs) (λ c. search walk depth 14)
-    (λ c. search needs) (λ c κs. search needs) (λ c. search needs) (λ c. search needs) (λ c. search needs) (λ c. search walk depth 14)
-    (λ c. search needs) (λ c κs. search needs) (λ c. search needs) (λ c. search walk depth 14))
+    (λ c. search needs) (λ c. search needs) (λ c. search needs)
+    (λ c. search needs) (λ c. search needs) (λ c. search needs) (λ c. search needs) (λ c κs. search needs) (λ c. search needs) (λ c. search kinds-packed)
+    (λ c κs. search needs) (λ c. search needs) (λ c. search needs))
