@@ -1,14 +1,17 @@
 -- What the calls leave: each way from a function's answer to the lent arrays.
 use mathlib.Core.Path.{_≡_, refl, sym, ap, _∙_}
 use mathlib.Core.List.{List, [], _∷_}
-use Prim.Native.Nat.{ℕ, _<_, _^_}
+use Prim.Native.Nat.{ℕ, zero, suc, _<_, _^_}
 use native.Mathlib.Omega.{arith}
+use lib.ListN.{getD, replicate}
 use lib.IntN.{ℤ}
 use Rattle.bits.specs.Walk.{Walk}
+use Rattle.bits.specs.Codec.{Got, got, stop}
 use Rattle.bits.specs.declared.answer.Numbered.{Numbered}
 use Rattle.obu.specs.declared.answer.Answer as O
 use Rattle.obu.specs.declared.header.ObuHeader.{ObuHeader}
 use Rattle.obu.specs.Delimiter.{temporal-delimiter}
+use Rattle.obu.specs.Demand3.{read}
 use Rattle.obu.specs.Writer as obu
 use Rattle.parts.specs.declared.answer.Answer as P
 use Rattle.parts.specs.Written as part
@@ -28,15 +31,18 @@ use Rattle.loop_filter.specs.LoopFilter as loop-filter
 use Rattle.cdef.specs.Cdef as cdef
 use Rattle.restoration.specs.Restoration as restoration
 use Rattle.sequence.specs.declared.record.SequenceHeaderObu.{SequenceHeaderObu}
+use Rattle.sequence.specs.Points.{no-point}
 use Rattle.sequence.specs.Sequence.{sequence-header}
 use Rattle.sequence.proofs.Answering.{same-answer}
 use Rattle.sequence_reader.specs.declared.read.Part.{Part}
 use Rattle.sequence_reader.specs.declared.read.SequenceAnswer.{SequenceAnswer}
 use Rattle.sequence_reader.specs.declared.read.Outcome.{Outcome}
 use Rattle.sequence_reader.specs.declared.read.Outcome.the-variants.{Done}
+use Rattle.sequence_reader.specs.Reader.{answerFor, Answers}
 use Rattle.sequence_reader.specs.Payload.{payloadPart}
 use Rattle.sequence_reader.proofs.PayloadParts.{few}
-use Rattle.boundary.specs.Sequence.{header-of, record-of, numbers-of}
+use Rattle.sequence_reader.proofs.Setting.{reader-sets}
+use Rattle.boundary.specs.Sequence.{header-of, record-of, ZerosBeyond, numbers-of}
 use Rattle.boundary.specs.Parts.{quantization-context, quantization-params, quantization-walk, segmentation-context, segmentation-params, segmentation-walk, loop-filter-context, loop-filter-params, loop-filter-walk, cdef-context, cdef-params, cdef-walk, lr-context, lr-params, lr-walk}
 use Rattle.boundary.specs.Calls.{answer-of, lent, wrote-obu, wrote-part, outcome-numbers, was-read, part-numbers}
 
@@ -77,6 +83,20 @@ module _ {out end l : List ℕ} {n : Numbered} (told : l ≡ answer-of n) where
 
     pub lr-crosses : {p : LoopRestorationParams} {k : LoopRestorationContext} → p ≡ lr-params xs → k ≡ lr-context xs → part.Writes (restoration.lr-params k .enc p) place out r end → lent l end ≡ wrote-part (lr-walk xs) place out
     lr-crosses e f w = part-crosses (λ i. restoration.lr-params (f i) .enc (e i)) w is told
+
+-- the reader leaves zeros beyond the count
+all-zeros : (n i : ℕ) → getD (replicate n no-point) i no-point ≡ no-point
+all-zeros zero i = refl
+all-zeros (suc n) zero = refl
+all-zeros (suc n) (suc i) = all-zeros n i
+
+unread : (xs : List ℕ) (g : Got SequenceHeaderObu) → read sequence-header xs ≡ g → ZerosBeyond (answerFor g .«record»)
+unfolding answerFor
+unread xs (got h rest) e = reader-sets xs {r = answerFor (got h rest)} (ap answerFor (sym e)) refl .points .beyond
+unread xs (stop r) e = λ i l. all-zeros 32 i
+
+pub zeros-beyond : (xs : List ℕ) {a : SequenceAnswer} → Answers xs a → ZerosBeyond (a .«record»)
+zeros-beyond xs e = rw e (unread xs (read sequence-header xs) refl)
 
 -- the reader's answer and its record
 pub read-crosses : {a v : SequenceAnswer} {l ns : List ℕ} {n : Numbered} → a ≡ v → ns ≡ numbers-of (a .«record») → n ≡ outcome-numbers (a .outcome) → l ≡ answer-of n → lent l ns ≡ was-read v

@@ -1,6 +1,7 @@
 -- The sequence header's record and its 347 numbers, in the order of the case lines with 32 points.
+use mathlib.Core.Path.{_≡_}
 use mathlib.Core.List.{List, [], _∷_, _++_}
-use Prim.Native.Nat.{ℕ, _+_, _*_, min}
+use Prim.Native.Nat.{ℕ, _+_, _*_, _<_, min}
 use lib.ListN.{getD}
 use Rattle.obu.specs.declared.header.ObuHeader.{ObuHeader}
 use Rattle.sequence.specs.declared.record.TimingInfo.{TimingInfo}
@@ -173,8 +174,15 @@ point-numbers p =
     of-flag (p .«decoder_model_present_for_this_op») ∷ p .«decoder_buffer_delay» ∷ p .«encoder_buffer_delay» ∷ of-flag (p .«low_delay_mode_flag») ∷
     of-flag (p .«initial_display_delay_present_for_this_op») ∷ p .«initial_display_delay_minus_1» ∷ []
 
+abbrev pub numbers-at : List OperatingPoint → ℕ → List ℕ
+numbers-at ps i = point-numbers (getD ps i no-point)
+
 abbrev pub points-numbers : List OperatingPoint → List ℕ
-points-numbers ps = joined 32 (λ i. point-numbers (getD ps i no-point))
+points-numbers ps = joined 32 (numbers-at ps)
+
+-- no point beyond the count holds anything
+abbrev pub ZerosBeyond : SequenceHeaderObu → Type 0
+ZerosBeyond h = (i : ℕ) → h .«operating_points_cnt_minus_1» < i → getD (h .«operating_points») i no-point ≡ no-point
 
 abbrev pub frame-numbers : SequenceHeaderObu → List ℕ
 frame-numbers h =

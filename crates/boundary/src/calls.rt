@@ -169,7 +169,7 @@ pub extern "C" fn friscurella_read_sequence_header(
     let a = read_sequence_header(input);
     let o = a.outcome;
     let h = a.record;
-    *record = sequence_numbers(h);
+    sequence_numbers(record, h);
     *answer = answer_of(outcome_numbers(o));
 }
 

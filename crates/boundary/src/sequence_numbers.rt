@@ -1,5 +1,6 @@
 // The numbers of the sequence header's record.
 use crate::number::wide;
+use crate::points::used;
 use obu::header::ObuHeader;
 use sequence::record::ColorConfig;
 use sequence::record::DecoderModelInfo;
@@ -8,10 +9,10 @@ use sequence::record::SequenceHeaderObu;
 use sequence::record::TimingInfo;
 ghost use mathlib.Core.Path.{_≡_};
 ghost use mathlib.Core.List.{_∷_};
-ghost use Prim.Native.Nat.{_<_};
+ghost use Prim.Native.Nat.{_<_, _≤_};
 ghost use lib.Seq.{sets};
-ghost use Rattle.boundary.specs.Numbers.{of-flag};
-ghost use Rattle.boundary.specs.Sequence.{point, header-numbers, general-numbers, timing-numbers, model-numbers, point-numbers, points-numbers, frame-numbers, tools-numbers, choice-numbers, color-numbers, numbers-of};
+ghost use Rattle.boundary.specs.Numbers.{of-flag, joined};
+ghost use Rattle.boundary.specs.Sequence.{point, header-numbers, general-numbers, timing-numbers, model-numbers, point-numbers, numbers-at, ZerosBeyond, frame-numbers, tools-numbers, choice-numbers, color-numbers, numbers-of};
 
 fn obu_header(n: &mut [u32; 347], h: ObuHeader)
     ensures { λ _. ⌜ now (n .exit) ≡ sets (now (n .entry)) 0 (header-numbers h) ⌝ }
@@ -68,10 +69,12 @@ fn operating_point(n: &mut [u32; 347], i: usize, p: OperatingPoint)
     n[at + 8] = p.initial_display_delay_minus_1;
 }
 
-fn operating_points(n: &mut [u32; 347], points: [OperatingPoint; 32])
-    ensures { λ _. ⌜ now (n .exit) ≡ sets (now (n .entry)) 20 (points-numbers points) ⌝ }
+// The first `count` points.
+fn operating_points(n: &mut [u32; 347], count: usize, points: [OperatingPoint; 32])
+    requires { ⌜ count ≤ 32 ⌝ }
+    ensures { λ _. ⌜ now (n .exit) ≡ sets (now (n .entry)) 20 (joined count (numbers-at points)) ⌝ }
 {
-    for i in 0..32 {
+    for i in 0..count {
         operating_point(n, i, points[i]);
     }
 }
@@ -134,23 +137,25 @@ fn color_config(n: &mut [u32; 347], k: ColorConfig)
     n[345] = k.separate_uv_delta_q as u32;
 }
 
-pub fn sequence_numbers(h: SequenceHeaderObu) -> [u32; 347]
-    ensures { λ r. ⌜ r ≡ numbers-of h ⌝ }
+// The points that are not used are zeros, as the reader leaves them.
+pub fn sequence_numbers(n: &mut [u32; 347], h: SequenceHeaderObu)
+    requires { ⌜ ZerosBeyond h ⌝ }
+    ensures { λ _. ⌜ now (n .exit) ≡ numbers-of h ⌝ }
 {
-    let mut n = [0u32; 347];
-    obu_header(&mut n, h.obu_header);
-    general(&mut n, h);
-    timing_info(&mut n, h.timing_info);
+    *n = [0u32; 347];
+    obu_header(n, h.obu_header);
+    general(n, h);
+    timing_info(n, h.timing_info);
     let present = h.decoder_model_info_present_flag;
-    decoder_model_info(&mut n, present, h.decoder_model_info);
+    decoder_model_info(n, present, h.decoder_model_info);
     n[18] = h.initial_display_delay_present_flag as u32;
     n[19] = h.operating_points_cnt_minus_1;
+    let count = used(h.operating_points_cnt_minus_1);
     let points = h.operating_points;
-    operating_points(&mut n, points);
-    frame(&mut n, h);
-    tools(&mut n, h);
-    choices(&mut n, h);
-    color_config(&mut n, h.color_config);
+    operating_points(n, count, points);
+    frame(n, h);
+    tools(n, h);
+    choices(n, h);
+    color_config(n, h.color_config);
     n[346] = h.film_grain_params_present as u32;
-    n
 }

@@ -6,10 +6,10 @@ use Rattle.boundary.proofs.sequence_numbers.operating_points.Statement.
 use Rattle.boundary.proofs.sequence_numbers.operating_points.Tie as tie
 
 abbrev Inv-loop : tie.InvT-loop
-Inv-loop n₀ points i₀ n i = Listed n₀ points n i
+Inv-loop n₀ count points i₀ n i = Listed n₀ points count n i
 
 abbrev μ-loop : tie.MeasureT-loop
-μ-loop n₀ points i₀ n i = 32 - i
+μ-loop n₀ count points i₀ n i = count - i
 
 pub operating-points-spec : {M : Type 1} → statement M
 operating-points-spec =

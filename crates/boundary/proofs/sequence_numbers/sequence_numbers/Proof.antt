@@ -1,5 +1,3 @@
-use Prim.Native.Nat.{ℕ}
-use lib.ListN.{replicate, length-replicate}
 use borrow.Author.Needs.{needs}
 use Rattle.boundary.proofs.Numbering.{numbered}
 use Rattle.boundary.proofs.sequence_numbers.sequence_numbers.Statement.{statement}
@@ -12,15 +10,17 @@ returns c =
     let tools = choices .before .before in
     let frame = tools .before .before in
     let points = frame .before .before in
-    let model = points .before .before .before .before in
+    let count = points .before .before .before in
+    let model = count .before .before in
     let timing = model .before .before in
     let general = timing .before .before in
     let header = general .before .before in
-    numbered (replicate 347 0) (length-replicate {A = ℕ} 347 0) (header .before .before .args .h) (header .obu-header .ensures) (general .general .ensures) (timing .timing-info .ensures) (model .decoder-model-info .ensures) (points .operating-points .ensures)
+    let start = header .before .before .before in
+    numbered (start .args .h) (start .pre) (header .obu-header .ensures) (general .general .ensures) (timing .timing-info .ensures) (model .decoder-model-info .ensures) (count .used .ensures) (points .operating-points .ensures)
     (frame .frame .ensures) (tools .tools .ensures) (choices .choices .ensures) (color .color-config .ensures)
 
 pub sequence-numbers-spec : {M : Type 1} → statement M
 sequence-numbers-spec =
     tie.close
     (tie.spec
-    (λ c κs. search needs) (λ c κs. search needs) (λ c κs. search needs) (λ c κs. search needs) (λ c. search needs) (λ c. search needs) (λ c. search needs) (λ c κs. search needs) (λ c κs. search needs) (λ c κs. search needs) (λ c κs. search needs) (λ c κs. search needs) (λ c. search needs) (λ c. search needs) returns)
+    (λ c κs. search needs) (λ c κs. search needs) (λ c κs. search needs) (λ c κs. search needs) (λ c. search needs) (λ c. search needs) (λ c. search needs) (λ c κs. search needs) (λ c κs. search needs) (λ c κs. search needs) (λ c κs. search needs) (λ c κs. search needs) (λ c κs. search needs) (λ c. search needs) (λ c. search needs) returns)
