@@ -57,15 +57,15 @@ fn behind(v: u64, x: u8) -> u64
     v * 256 + x as u64
 }
 
-// The number that the five bytes from i on are.
-fn window(s: &[u8], i: usize) -> u64
-    requires { ⌜ i * 8 + 40 ≤ end (now s) ⌝ }
-    ensures { λ r. ⌜ from (now (s .entry)) (i * 8) ≡ toBits 40 r ++ from (now (s .entry)) (i * 8 + 40) ⌝ }
+// The number that the m bytes from i on are.
+fn window(s: &[u8], i: usize, m: u32) -> u64
+    requires { ⌜ (m ≤ 5) × (i * 8 + m * 8 ≤ end (now s)) ⌝ }
+    ensures { λ r. ⌜ from (now (s .entry)) (i * 8) ≡ toBits (m * 8) r ++ from (now (s .entry)) (i * 8 + m * 8) ⌝ }
 {
     let mut v: u64 = 0;
     let mut j = i;
     let mut k: u32 = 0;
-    while k < 5 {
+    while k < m {
         v = behind(v, s[j]);
         j += 1;
         k += 1;
@@ -73,13 +73,14 @@ fn window(s: &[u8], i: usize) -> u64
     v
 }
 
-// The n bits from a place on, where there are at least forty: five bytes at once.
+// The n bits from a place on, where there are at least forty: at once all the bytes that n bits can lie in, whatever the place.
 fn by_window(s: &[u8], at: usize, n: u32) -> u32
     requires { ⌜ (n ≤ 32) × (at + 40 ≤ end (now s)) ⌝ }
     ensures { λ r. ⌜ f n 0 0 .dec (from (now (s .entry)) at) ≡ got r (from (now (s .entry)) (at + n)) ⌝ }
 {
-    let d = 40 - (at % 8) as u32 - n;
-    ((window(s, at / 8) >> d) % pow2(n)) as u32
+    let m = (n + 14) / 8;
+    let d = m * 8 - (at % 8) as u32 - n;
+    ((window(s, at / 8, m) >> d) % pow2(n)) as u32
 }
 
 // The same up to the last bit, byte for byte.

@@ -1,15 +1,15 @@
 use Prim.Native.Nat.{_-_}
 use borrow.Author.Needs.{needs}
-use Rattle.bits.proofs.Words.{Window, window-all, window-in, window-next, window-on}
-use Rattle.reader.proofs.Windows.{window-low, window-five}
+use Rattle.bits.proofs.Words.{Window, window-all, window-in, window-next, window-on, window-end}
+use Rattle.reader.proofs.Windows.{window-low}
 use Rattle.reader.proofs.window.Statement.{statement}
 use Rattle.reader.proofs.window.Tie as tie
 
 abbrev Inv-loop : tie.InvT-loop
-Inv-loop s i v₀ j₀ k₀ v j k = Window 5 s i v k j
+Inv-loop s i m v₀ j₀ k₀ v j k = Window m s i v k j
 
 abbrev μ-loop : tie.MeasureT-loop
-μ-loop s i v₀ j₀ k₀ v j k = 5 - k
+μ-loop s i m v₀ j₀ k₀ v j k = m - k
 
 pub window-spec : {M : Type 1} → statement M
 window-spec =
@@ -21,4 +21,4 @@ window-spec =
     (λ c. search window-in) (λ c κs. search window-low)
     (λ c. record { fits = search window-next })
     (λ c. search needs) (λ c. search needs) (λ c. search window-on)
-    (λ c. search window-five))
+    (λ c. search window-end))
