@@ -17,12 +17,12 @@ use Rattle.bits.specs.declared.answer.Refusal.{Refusal}
 use Rattle.bits.specs.declared.answer.Refusal.the-variants.{Short, Long}
 use Rattle.bits.specs.declared.answer.Step.{Step}
 use Rattle.bits.proofs.Walking.{answer, bytes, kept, bounded}
-use Rattle.bits.proofs.Storing.{put-beyond}
+use Rattle.bits.proofs.Storing.{put-beyond, length-put}
 use Rattle.bits.proofs.Pieces.{take-put, drop-put, put-out}
 use Rattle.bits.proofs.Places.{end-is, put-bits, put-front}
 use Rattle.parts.specs.declared.answer.Answer.{Answer}
 use Rattle.parts.specs.declared.answer.Answer.the-variants.{Done, Refused}
-use Rattle.parts.specs.Written.{Written, keep, bytesTo, afterWalk, written, Writes, writes, lent, reach, Held, held, afterNear, settled, Settles, settles}
+use Rattle.parts.specs.Written.{Written, keep, bytesTo, afterWalk, written, Writes, writes, lent, afterNear, settled, Settles, settles}
 
 -- Two answers that the contract allows are equal, and so are two contents of the slice.
 pub only : {w : Walk} {place : ℕ} {xs ys zs : List ℕ} {r s : Answer} → Writes w place xs r ys → Writes w place xs s zs → (r ≡ s) × (ys ≡ zs)
@@ -121,18 +121,35 @@ back xs ns place bs h l m =
     let f : put ds r bs ≡ drop i (put xs place bs) = sym (ap (λ (j : ℕ). drop i (put xs j bs)) p ∙ drop-put i xs r bs (omega arith)) in
     rw (b, d, take-append-drop k (put ds r bs), e, f) (take-append-drop i (put xs place bs))
 
+lent-length : (xs : List ℕ) (place : ℕ) (ns : List ℕ) → length (lent xs place ns) ≡ length ns
+unfolding lent
+lent-length xs place ns =
+    omega (
+      arith,
+      length-append (take (length ns) (drop (place / 8) xs)) (drop (length xs - place / 8) ns),
+      length-take (length ns) (drop (place / 8) xs),
+      length-drop (place / 8) xs,
+      length-drop (length xs - place / 8) ns,
+    )
+
 -- what comes of a walk over the array is what the contract says
-agree : (k : End) (bs : Bits) (place : ℕ) (xs ns : List ℕ) → place % 8 + length bs ≤ length ns * 8
+agree : (k : End) (bs : Bits) (place : ℕ) (xs ns : List ℕ) → place % 8 + length bs ≤ length ns * 8 → length ns ≤ 65536
     → cond (ltb 65536 (length xs)) (keep Long xs) (afterNear (ends k (place % 8 + length bs)) (place / 8) (put (lent xs place ns) (place % 8) bs) xs)
     ≡ cond (ltb 65536 (length xs)) (keep Long xs) (afterWalk k bs place xs)
-agree (refused r) bs place xs ns m = refl
-agree done bs place xs ns m = rw (e, c) (go (ltb 65536 (length xs)) (ltb (length xs * 8) (place + length bs)) refl refl)
+agree (refused r) bs place xs ns m l = refl
+agree done bs place xs ns m l = rw (le-ltb 65536 (length near) (omega (arith, n)), le-ltb (length near * 8) (place % 8 + length bs) (omega (arith, n)), e, c) (go (ltb 65536 (length xs)) (ltb (length xs * 8) (place + length bs)) refl refl)
   where
     e : place / 8 * 8 + (place % 8 + length bs) ≡ place + length bs
     e = omega arith
 
     c : place / 8 + bytesTo (place % 8 + length bs) ≡ bytesTo (place + length bs)
     c = omega arith
+
+    near : List ℕ
+    near = put (lent xs place ns) (place % 8) bs
+
+    n : length near ≡ length ns
+    n = length-put (lent xs place ns) (place % 8) bs ∙ lent-length xs place ns
 
     stands : List ℕ
     stands = take (place / 8) xs ++ (take (bytesTo (place % 8 + length bs)) (put (lent xs place ns) (place % 8) bs) ++ drop (bytesTo (place % 8 + length bs)) (drop (place / 8) xs))
@@ -145,36 +162,14 @@ agree done bs place xs ns m = rw (e, c) (go (ltb 65536 (length xs)) (ltb (length
     go false false h l =
         ap (λ (ys : List ℕ). record { answer = Done (place + length bs); bytes = ys }) (back xs ns place bs (ltb-false 65536 (length xs) h) (ltb-false (length xs * 8) (place + length bs) l) m)
 
-lent-length : (xs : List ℕ) (place : ℕ) (ns : List ℕ) → length (lent xs place ns) ≡ length ns
-unfolding lent
-lent-length xs place ns =
-    omega (
-      arith,
-      length-append (take (length ns) (drop (place / 8) xs)) (drop (length xs - place / 8) ns),
-      length-take (length ns) (drop (place / 8) xs),
-      length-drop (place / 8) xs,
-      length-drop (length xs - place / 8) ns,
-    )
-
 -- One walk of a part, over the array, and what comes of it.
 module _ {n : ℕ} {w : Walk} (xs : List ℕ) (place : ℕ) {c : Cursor} {ms ns : List ℕ} {s : Step} (g : Walked w c ms s ns) (b : c ≡ record { at = place % 8 }) (m : ms ≡ lent xs place (replicate n 0)) (F : Few n w) where
   bits-end : forward (place % 8) (length (run w .bits)) ≡ place % 8 + length (run w .bits)
   bits-end = omega (arith, bounded w, F .most, F .size)
 
-  near-length : length ns ≡ n
-  near-length = kept g ∙ ap length m ∙ lent-length xs place (replicate n 0) ∙ length-replicate n 0
-
-  pub inside : Held s ns
-  unfolding stepOf
-  inside = held (rw (answer g, b, bits-end, near-length) (go (run w .end))) (omega (arith, near-length, F .size))
-    where
-      go : (k : End) → reach (ends k (place % 8 + length (run w .bits))) ≤ n * 8
-      go done = omega (arith, bounded w, F .most)
-      go (refused r) = omega arith
-
   pub once : {a : Answer} {ys : List ℕ} → Settles s place ns xs a ys → Writes w place xs a ys
   unfolding settled written stepOf
   once (settles p q) =
-      let e = agree (run w .end) (run w .bits) place xs (replicate n 0) (omega (arith, bounded w, F .most, length-replicate {A = ℕ} n 0)) in
+      let e = agree (run w .end) (run w .bits) place xs (replicate n 0) (omega (arith, bounded w, F .most, length-replicate {A = ℕ} n 0)) (omega (arith, F .size, length-replicate {A = ℕ} n 0)) in
       let f : settled s place ns xs ≡ written w place xs = rw (bytes g, m, answer g, b, bits-end) e in
       writes (p ∙ ap (λ (u : Written). u .answer) f) (q ∙ ap (λ (u : Written). u .bytes) f)

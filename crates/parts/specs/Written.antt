@@ -54,22 +54,17 @@ pub data Writes (w : Walk) (place : ℕ) (xs : List ℕ) (r : Answer) (ys : List
 unfoldable pub lent : List ℕ → ℕ → List ℕ → List ℕ
 lent xs place ns = take (length ns) (drop (place / 8) xs) ++ drop (length xs - place / 8) ns
 
--- where a walk ended
-abbrev pub reach : Step → ℕ
-reach (S.Refused r) = 0
-reach (S.Next c) = c .at
+-- After a walk to the bit n that left ns in the array: the bytes that it reached go back into the slice, from the i-th on.
+abbrev pub putBack : ℕ → ℕ → List ℕ → List ℕ → Written
+putBack n i ns xs =
+    cond (ltb (length xs * 8) (i * 8 + n))
+    (keep (Short (i + bytesTo n)) xs)
+    (record { answer = Done (i * 8 + n); bytes = take i xs ++ (take (bytesTo n) ns ++ drop (bytesTo n) (drop i xs)) })
 
--- the walk ended in the array, which is a small one
-pub data Held (s : Step) (ns : List ℕ) : Type 0 where
-  held : reach s ≤ length ns * 8 → length ns ≤ 65536 → Held s ns
-
--- After a walk that left ns in the array: the bytes that it reached go back into the slice, from the i-th on.
+-- (No part's walk passes the end of its array, and no such array is long.)
 abbrev pub afterNear : Step → ℕ → List ℕ → List ℕ → Written
 afterNear (S.Refused r) i ns xs = keep r xs
-afterNear (S.Next c) i ns xs =
-    cond (ltb (length xs * 8) (i * 8 + c .at))
-    (keep (Short (i + bytesTo (c .at))) xs)
-    (record { answer = Done (i * 8 + c .at); bytes = take i xs ++ (take (bytesTo (c .at)) ns ++ drop (bytesTo (c .at)) (drop i xs)) })
+afterNear (S.Next c) i ns xs = cond (ltb 65536 (length ns)) (keep Long xs) (cond (ltb (length ns * 8) (c .at)) (keep Long xs) (putBack (c .at) i ns xs))
 
 unfoldable pub settled : Step → ℕ → List ℕ → List ℕ → Written
 settled s place ns xs = cond (ltb 65536 (length xs)) (keep Long xs) (afterNear s (place / 8) ns xs)

@@ -5,7 +5,7 @@ use bits::answer::Refusal;
 use bits::answer::Step;
 ghost use mathlib.Core.Path.{_≡_};
 ghost use Prim.Native.Nat.{_%_};
-ghost use Rattle.parts.specs.Written.{lent, Held, Settles};
+ghost use Rattle.parts.specs.Written.{lent, Settles};
 
 // The bytes of `out` from that of the place on, as many as both have, at the start of `near`.
 pub fn lend(out: &[u8], place: u32, near: &mut [u8])
@@ -35,7 +35,6 @@ pub fn start(place: u32) -> Cursor
 
 // A walk over `near` that came to s: its refusal, or its bytes put back into `out`.
 pub fn settle(s: Step, place: u32, near: &[u8], out: &mut [u8]) -> Answer
-    requires { ⌜ Held s (now near) ⌝ }
     ensures { λ r. ⌜ Settles s place (now (near .entry)) (now (out .entry)) r (now (out .exit)) ⌝ }
 {
     let n = out.len();
@@ -45,6 +44,13 @@ pub fn settle(s: Step, place: u32, near: &[u8], out: &mut [u8]) -> Answer
     match s {
         Step::Refused(r) => Answer::Refused(r),
         Step::Next(c) => {
+            let m = near.len();
+            if 65536 < m {
+                return Answer::Refused(Refusal::Long);
+            }
+            if m * 8 < c.at {
+                return Answer::Refused(Refusal::Long);
+            }
             let i = (place / 8) as usize;
             let k = (c.at + 7) / 8;
             let end = i * 8 + c.at;

@@ -6,7 +6,7 @@ use Rattle.bits.specs.Codec.{_▷_, choose, checked, recode, via, array, f, abs
 use Rattle.cdef.specs.Cdef.{damping, secondary, strength, strengths, each-strength, on-table, no-strength, no-place, no-strengths, off-table, cdef-on, cdef-off, cdef-params}
 use Rattle.cdef.specs.declared.CdefParams.{CdefParams}
 use Rattle.cdef.specs.declared.CdefContext.{CdefContext}
-use Rattle.parts.proofs.Writing.{Few, inside, once}
+use Rattle.parts.proofs.Writing.{Few, once}
 use Rattle.cdef.proofs.write_cdef_params.Statement.{statement}
 use Rattle.cdef.proofs.write_cdef_params.Tie as tie
 
@@ -20,4 +20,4 @@ write-cdef-params-spec =
     (tie.spec
     (λ c. search needs) (λ c κs. search needs)
     (λ c. search needs) (λ c κs. search needs) (λ c κs. search needs)
-    (λ c. search needs) (λ c κs. search (inside, few)) (λ c. search needs) (λ c. search (once, few)))
+    (λ c. search needs) (λ c κs. search needs) (λ c. search needs) (λ c. search (once, few)))

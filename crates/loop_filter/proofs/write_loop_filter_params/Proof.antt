@@ -8,7 +8,7 @@ use Rattle.parts.specs.Codes.{inferredSigned}
 use Rattle.loop_filter.specs.LoopFilter.{chroma-levels, levels, delta, ref-deltas, mode-deltas, deltas, delta-update, rest, filter-on, default-refs, default-modes, no-levels, no-rest, filter-off, loop-filter-table, loop-filter-params, no-old}
 use Rattle.loop_filter.specs.declared.LoopFilterParams.{LoopFilterParams}
 use Rattle.loop_filter.specs.declared.LoopFilterContext.{LoopFilterContext}
-use Rattle.parts.proofs.Writing.{Few, inside, once}
+use Rattle.parts.proofs.Writing.{Few, once}
 use Rattle.loop_filter.proofs.write_loop_filter_params.Statement.{statement}
 use Rattle.loop_filter.proofs.write_loop_filter_params.Tie as tie
 
@@ -22,4 +22,4 @@ write-loop-filter-params-spec =
     (tie.spec
     (λ c. search needs) (λ c κs. search needs)
     (λ c. search needs) (λ c κs. search needs) (λ c κs. search needs)
-    (λ c. search needs) (λ c κs. search (inside, few)) (λ c. search needs) (λ c. search (once, few)))
+    (λ c. search needs) (λ c κs. search needs) (λ c. search needs) (λ c. search (once, few)))

@@ -8,7 +8,7 @@ use Rattle.parts.specs.Codes.{inferredSigned}
 use Rattle.quantization.specs.Quantization.{read-delta-q, diff-uv, v-coded, v-inferred, v-deltas, uv-deltas, no-uv-deltas, three-planes, one-plane, chroma, v-matrix, matrices, qmatrix, quantization-table, quantization-params}
 use Rattle.quantization.specs.declared.QuantizationParams.{QuantizationParams}
 use Rattle.quantization.specs.declared.QuantizationContext.{QuantizationContext}
-use Rattle.parts.proofs.Writing.{Few, inside, once}
+use Rattle.parts.proofs.Writing.{Few, once}
 use Rattle.quantization.proofs.write_quantization_params.Statement.{statement}
 use Rattle.quantization.proofs.write_quantization_params.Tie as tie
 
@@ -22,4 +22,4 @@ write-quantization-params-spec =
     (tie.spec
     (λ c. search needs) (λ c κs. search needs)
     (λ c. search needs) (λ c κs. search needs) (λ c κs. search needs)
-    (λ c. search needs) (λ c κs. search (inside, few)) (λ c. search needs) (λ c. search (once, few)))
+    (λ c. search needs) (λ c κs. search needs) (λ c. search needs) (λ c. search (once, few)))

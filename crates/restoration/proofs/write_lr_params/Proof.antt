@@ -6,7 +6,7 @@ use Rattle.bits.specs.Codec.{_▷_, choose, checked, recode, merged, via, f, fl
 use Rattle.restoration.specs.Restoration.{large-shift, small-shift, unit-shift, uv-shift, shifts, uses, kinds, three-planes, one-kind, one-plane, no-kinds, no-planes, lr-table, lr-params}
 use Rattle.restoration.specs.declared.LoopRestorationParams.{LoopRestorationParams}
 use Rattle.restoration.specs.declared.LoopRestorationContext.{LoopRestorationContext}
-use Rattle.parts.proofs.Writing.{Few, inside, once}
+use Rattle.parts.proofs.Writing.{Few, once}
 use Rattle.restoration.proofs.write_lr_params.Statement.{statement}
 use Rattle.restoration.proofs.write_lr_params.Tie as tie
 
@@ -20,4 +20,4 @@ write-lr-params-spec =
     (tie.spec
     (λ c. search needs) (λ c κs. search needs)
     (λ c. search needs) (λ c κs. search needs) (λ c κs. search needs)
-    (λ c. search needs) (λ c κs. search (inside, few)) (λ c. search needs) (λ c. search (once, few)))
+    (λ c. search needs) (λ c κs. search needs) (λ c. search needs) (λ c. search (once, few)))

@@ -8,7 +8,7 @@ use Rattle.parts.specs.Codes.{inferredSigned, natural, trimmed}
 use Rattle.segmentation.specs.Segmentation.{signed-value, unsigned-value, feature-value, feature, features, no-flags, no-data, no-features, features-if, temporal-update, coded-updates, inferred-updates, with-reference, without-reference, enabled-params, segmentation-table, segmentation-params}
 use Rattle.segmentation.specs.declared.SegmentationParams.{SegmentationParams}
 use Rattle.segmentation.specs.declared.SegmentationContext.{SegmentationContext}
-use Rattle.parts.proofs.Writing.{Few, inside, once}
+use Rattle.parts.proofs.Writing.{Few, once}
 use Rattle.segmentation.proofs.write_segmentation_params.Statement.{statement}
 use Rattle.segmentation.proofs.write_segmentation_params.Tie as tie
 
@@ -22,4 +22,4 @@ write-segmentation-params-spec =
     (tie.spec
     (λ c. search needs) (λ c κs. search needs)
     (λ c. search needs) (λ c κs. search needs) (λ c κs. search needs)
-    (λ c. search needs) (λ c κs. search (inside, few)) (λ c. search needs) (λ c. search (once, few)))
+    (λ c. search needs) (λ c κs. search needs) (λ c. search needs) (λ c. search (once, few)))
