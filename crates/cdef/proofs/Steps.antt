@@ -30,7 +30,7 @@ module _ (v : ℕ) {c : Cursor} {xs : List ℕ} where
   unfolding damping recode f
   damping-low h = rw (lt-ltb v 3 h) (field-refused 2 4 cdef-damping 0 c xs false refl refl)
 
-  pub damping-high : {ys : List ℕ} {s : Step} → 3 ≤ v → Walked (field 2 (v - 3) cdef-damping 0) c xs s ys → Walked (damping .enc v) c xs s ys
+  pub damping-high : {w : Walk} {ys : List ℕ} {s : Step} → 3 ≤ v → Walked (field 2 (v - 3) cdef-damping 0 ⊕ w) c xs s ys → Walked (damping .enc v ⊕ w) c xs s ys
   unfolding damping recode f
   damping-high h g = rw (le-ltb v 3 h) g
 

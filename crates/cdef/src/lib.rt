@@ -10,6 +10,7 @@ use bits::element::CDEF_Y_PRI_STRENGTH;
 use bits::element::CDEF_Y_SEC_STRENGTH;
 use parts::answer::Answer;
 use parts::inferred::any;
+use parts::pair::pair;
 use parts::place::lend;
 use parts::place::settle;
 use parts::place::start;
@@ -20,7 +21,7 @@ ghost use Prim.Native.Nat.{_≤_, _<_, _^_, min};
 ghost use lib.ListN.{getD};
 ghost use Rattle.bits.specs.Walk.{Walked};
 ghost use Rattle.parts.specs.Written.{Writes};
-ghost use Rattle.cdef.specs.Cdef.{damping, secondary, strength, packed, strengths, each-strength, none, strengths-out, no-strength, no-strengths, cdef-on, cdef-off, cdef-params};
+ghost use Rattle.cdef.specs.Cdef.{secondary, strength, packed, strengths, each-strength, none, strengths-out, no-strength, no-strengths, cdef-on, cdef-off, cdef-params};
 
 pub struct CdefParams {
     pub cdef_bits: u32,
@@ -37,15 +38,6 @@ pub struct CdefContext {
     pub allow_intrabc: bool,
     pub enable_cdef: bool,
     pub planes: u32,
-}
-
-fn damping(out: &mut [u8], c: Cursor, v: u32) -> Step
-    ensures { λ s. ⌜ Walked (damping .enc v) c (now (out .entry)) s (now (out .exit)) ⌝ }
-{
-    if v < 3 {
-        return Step::Refused(Refusal::Unfit(CDEF_DAMPING, 0));
-    }
-    f(out, c, 2, v - 3, CDEF_DAMPING, 0)
 }
 
 fn secondary(out: &mut [u8], c: Cursor, v: u32, element: u8, i: u8) -> Step
@@ -169,11 +161,21 @@ fn places(bits: u32) -> usize
 fn cdef_on(out: &mut [u8], c: Cursor, planes: u32, p: CdefParams) -> Step
     ensures { λ s. ⌜ Walked (cdef-on planes .enc p) c (now (out .entry)) s (now (out .exit)) ⌝ }
 {
-    let s = damping(out, c, p.cdef_damping);
-    let Step::Next(c) = s else {
-        return s;
-    };
-    let s = f(out, c, 2, p.cdef_bits, CDEF_BITS, 0);
+    if p.cdef_damping < 3 {
+        return Step::Refused(Refusal::Unfit(CDEF_DAMPING, 0));
+    }
+    let s = pair(
+        out,
+        c,
+        2,
+        4,
+        p.cdef_damping - 3,
+        p.cdef_bits,
+        CDEF_DAMPING,
+        0,
+        CDEF_BITS,
+        0,
+    );
     let Step::Next(c) = s else {
         return s;
     };

@@ -8,6 +8,7 @@ use bits::element::LOOP_FILTER_SHARPNESS;
 use parts::answer::Answer;
 use parts::inferred::either;
 use parts::inferred::inferred_delta;
+use parts::pair::pair;
 use parts::place::lend;
 use parts::place::settle;
 use parts::place::start;
@@ -55,11 +56,18 @@ fn chroma_levels(out: &mut [u8], c: Cursor, coded: bool, u: u32, v: u32) -> Step
     ensures { λ s. ⌜ Walked (chroma-levels coded .enc (u, v)) c (now (out .entry)) s (now (out .exit)) ⌝ }
 {
     if coded {
-        let s = f(out, c, 6, u, LOOP_FILTER_LEVEL, 2);
-        let Step::Next(c) = s else {
-            return s;
-        };
-        return f(out, c, 6, v, LOOP_FILTER_LEVEL, 3);
+        return pair(
+            out,
+            c,
+            6,
+            64,
+            u,
+            v,
+            LOOP_FILTER_LEVEL,
+            2,
+            LOOP_FILTER_LEVEL,
+            3,
+        );
     }
     Step::Next(c)
 }
@@ -69,11 +77,18 @@ fn levels(out: &mut [u8], c: Cursor, planes: u32, p: LoopFilterParams) -> Step
 {
     let a = p.loop_filter_level[0];
     let b = p.loop_filter_level[1];
-    let s = f(out, c, 6, a, LOOP_FILTER_LEVEL, 0);
-    let Step::Next(c) = s else {
-        return s;
-    };
-    let s = f(out, c, 6, b, LOOP_FILTER_LEVEL, 1);
+    let s = pair(
+        out,
+        c,
+        6,
+        64,
+        a,
+        b,
+        LOOP_FILTER_LEVEL,
+        0,
+        LOOP_FILTER_LEVEL,
+        1,
+    );
     let Step::Next(c) = s else {
         return s;
     };

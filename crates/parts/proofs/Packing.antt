@@ -1,21 +1,23 @@
 -- Fields one behind another, stored as one.
 use mathlib.Core.Path.{_≡_, refl, sym, ap, _∙_}
-use mathlib.Core.List.{List, _∷_, _++_}
+use mathlib.Core.List.{List, _∷_, _++_, append-assoc}
 use mathlib.Core.Bool.{true}
 use Prim.Native.Nat.{ℕ, zero, suc, _+_, _*_, _^_, _/_, _%_, _<_}
 use native.Mathlib.Omega.{arith}
 use native.Mathlib.Nat.{zero-add, suc-add, add-comm}
-use lib.Arith.{digits-div, digits-mod}
+use lib.Arith.{digits-div, digits-mod, digits-lt}
 use lib.Dec.{eqb}
 use lib.Pow.{shr-shr, pow-add}
 use borrow.Author.Tests.{lt-ltb}
 use Rattle.bits.specs.Bits.{Bits, bitAt, toBits}
-use Rattle.bits.specs.Walk.{Walk, field, mark, _⊕_, Out, wrote, join, run, Walked}
+use Rattle.bits.specs.Walk.{Walk, field, mark, _⊕_, End, done, refused, Out, wrote, after, join, run, Walked}
 use Rattle.bits.specs.declared.answer.Cursor.{Cursor}
+use Rattle.bits.specs.declared.answer.Refusal.{Refusal}
 use Rattle.bits.specs.declared.answer.Step.{Step}
+use Rattle.bits.specs.declared.answer.Step.the-variants.{Next, Refused}
 use Rattle.bits.proofs.Laws.{joined}
 use Rattle.bits.proofs.Numbers.{toBits-mod}
-use Rattle.bits.proofs.Walking.{as-run}
+use Rattle.bits.proofs.Walking.{as-run, hop, halt}
 
 bits-split : (k m v : ℕ) → toBits (k + m) v ≡ toBits k (v / 2 ^ m) ++ toBits m v
 unfolding toBits bitAt
@@ -52,3 +54,30 @@ flag-field n top code h k l g =
     let a : 1 + n ≡ n + 1 = omega arith in
     let b : 1 * 2 ^ n + code ≡ top + code = omega arith in
     by-field (n + 1) (top + code) (rw (a, b) at (both-run 1 n 1 code refl k (rw (← h) l))) (omega (arith, double n top h)) g
+
+-- two fields of n bits
+pub pair-packed : (n top a b x i y j : ℕ) {e k : ℕ} {c : Cursor} {xs ys : List ℕ} {s : Step} → top ≡ 2 ^ n → a < top → b < top → Walked (field (n * 2) (a * top + b) e k) c xs s ys → Walked (field n a x i ⊕ field n b y j) c xs s ys
+unfolding run
+pair-packed n top a b x i y j h k l g =
+    let m : n * 2 ≡ n + n = omega arith in
+    let u : a < 2 ^ n = rw (← h) k in
+    let v : b < 2 ^ n = rw (← h) l in
+    by-field (n * 2) (a * top + b) (rw (m, h) (both-run n n a b (field-run n a x i u) (field-run n b y j v) v)) (rw (m, h, pow-add) (digits-lt u v)) g
+
+-- what comes behind two steps that were made as one
+join-assoc : (d e : End) (x y : Bits) (p : Out) → join (after d x (record { bits = y; end = e })) p ≡ after d x (after e y p)
+unfolding join
+join-assoc done done x y p = λ i. record { bits = append-assoc x y (p .bits) i; end = p .end }
+join-assoc done (refused r) x y p = refl
+join-assoc (refused r) e x y p = refl
+
+grouped : {u v w : Walk} {c : Cursor} {xs zs : List ℕ} {t : Step} → Walked ((u ⊕ v) ⊕ w) c xs t zs → Walked (u ⊕ (v ⊕ w)) c xs t zs
+unfolding run join
+grouped {u} {v} {w} g = as-run (join-assoc (run u .end) (run v .end) (run u .bits) (run v .bits) (run w)) g
+
+module _ {u v w : Walk} {c : Cursor} {xs ys : List ℕ} {s : Step} where
+  pub pair-then : {d : Cursor} {t : Step} {zs : List ℕ} → Walked (u ⊕ v) c xs s ys → s ≡ Next d → Walked w d ys t zs → Walked (u ⊕ (v ⊕ w)) c xs t zs
+  pair-then g q k = grouped (hop g q k)
+
+  pub pair-halt : {r : Refusal} → Walked (u ⊕ v) c xs s ys → s ≡ Refused r → Walked (u ⊕ (v ⊕ w)) c xs s ys
+  pair-halt g q = grouped (halt g q)

@@ -13,6 +13,7 @@ use bits::element::QM_V;
 use bits::element::QM_Y;
 use parts::answer::Answer;
 use parts::inferred::inferred_delta;
+use parts::pair::pair;
 use parts::place::lend;
 use parts::place::settle;
 use parts::place::start;
@@ -155,11 +156,7 @@ fn v_matrix(out: &mut [u8], c: Cursor, separate: bool, u: u32, v: u32) -> Step
 fn matrices(out: &mut [u8], c: Cursor, separate: bool, q: QuantizationParams) -> Step
     ensures { λ s. ⌜ Walked (matrices separate .enc (matrices-out q)) c (now (out .entry)) s (now (out .exit)) ⌝ }
 {
-    let s = f(out, c, 4, q.qm_y, QM_Y, 0);
-    let Step::Next(c) = s else {
-        return s;
-    };
-    let s = f(out, c, 4, q.qm_u, QM_U, 0);
+    let s = pair(out, c, 4, 16, q.qm_y, q.qm_u, QM_Y, 0, QM_U, 0);
     let Step::Next(c) = s else {
         return s;
     };

@@ -10,6 +10,5 @@ unfolding chroma-levels _▷_ choose f absent
 chroma-levels-spec =
     tie.close
     (tie.spec
-    (λ c κs. search needs) (λ c. search needs) (λ c. search needs) (λ c. search needs) (λ c. search walk depth 14)
     (λ c κs. search needs) (λ c. search needs) (λ c. search walk depth 14)
     (λ c. search walk depth 14))

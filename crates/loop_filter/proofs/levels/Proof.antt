@@ -1,7 +1,7 @@
 use borrow.Author.Needs.{needs}
 use Rattle.bits.specs.Codec.{_▷_, f}
 use Rattle.loop_filter.specs.LoopFilter.{levels}
-use Rattle.bits.proofs.Walking.{walk}
+use Rattle.parts.proofs.Packing.{pair-then, pair-halt}
 use Rattle.loop_filter.proofs.Steps.{levels-by}
 use Rattle.loop_filter.proofs.levels.Statement.{statement}
 use Rattle.loop_filter.proofs.levels.Tie as tie
@@ -11,6 +11,5 @@ unfolding levels _▷_ f
 levels-spec =
     tie.close
     (tie.spec
-    (λ c. search needs) (λ c. search needs) (λ c κs. search needs) (λ c. search needs) (λ c. search needs) (λ c. search needs) (λ c. search (walk, levels-by) depth 14)
-    (λ c κs. search needs) (λ c. search needs) (λ c. search needs) (λ c. search needs) (λ c. search (walk, levels-by) depth 14)
-    (λ c κs. search needs) (λ c. search needs) (λ c. search needs) (λ c κs. search needs) (λ c. search needs) (λ c. search (walk, levels-by) depth 14))
+    (λ c. search needs) (λ c. search needs) (λ c κs. search needs) (λ c. search needs) (λ c. search needs) (λ c. search needs) (λ c. search pair-halt)
+    (λ c κs. search needs) (λ c. search needs) (λ c. search needs) (λ c κs. search needs) (λ c. search needs) (λ c. search (pair-then, levels-by)))

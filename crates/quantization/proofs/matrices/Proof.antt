@@ -1,7 +1,7 @@
 use borrow.Author.Needs.{needs}
 use Rattle.bits.specs.Codec.{_▷_, f}
 use Rattle.quantization.specs.Quantization.{matrices}
-use Rattle.bits.proofs.Walking.{walk}
+use Rattle.parts.proofs.Packing.{pair-then, pair-halt}
 use Rattle.quantization.proofs.matrices.Statement.{statement}
 use Rattle.quantization.proofs.matrices.Tie as tie
 
@@ -10,6 +10,5 @@ unfolding matrices _▷_ f
 matrices-spec =
     tie.close
     (tie.spec
-    (λ c κs. search needs) (λ c. search needs) (λ c. search needs) (λ c. search needs) (λ c. search walk depth 14)
-    (λ c κs. search needs) (λ c. search needs) (λ c. search needs) (λ c. search needs) (λ c. search walk depth 14)
-    (λ c κs. search needs) (λ c. search needs) (λ c. search walk depth 14))
+    (λ c κs. search needs) (λ c. search needs) (λ c. search needs) (λ c. search needs) (λ c. search pair-halt)
+    (λ c κs. search needs) (λ c. search needs) (λ c. search pair-then))

@@ -1,0 +1,35 @@
+// Two fields of n bits, stored as one.
+use bits::answer::Cursor;
+use bits::answer::Step;
+use writer::f;
+ghost use mathlib.Core.Path.{_≡_};
+ghost use Prim.Native.Nat.{_^_, _≤_};
+ghost use Rattle.bits.specs.Walk.{Walked, field, _⊕_};
+
+// The numbers a and b, of the elements x and y with their indexes; top is 2^n.
+pub fn pair(
+    out: &mut [u8],
+    c: Cursor,
+    n: u32,
+    top: u32,
+    a: u32,
+    b: u32,
+    x: u8,
+    i: u8,
+    y: u8,
+    j: u8,
+) -> Step
+    requires { ⌜ (n ≤ 16) × (top ≡ 2 ^ n) ⌝ }
+    ensures { λ s. ⌜ Walked (field n a x i ⊕ field n b y j) c (now (out .entry)) s (now (out .exit)) ⌝ }
+{
+    if a < top {
+        if b < top {
+            return f(out, c, n * 2, a * top + b, x, i);
+        }
+    }
+    let s = f(out, c, n, a, x, i);
+    let Step::Next(c) = s else {
+        return s;
+    };
+    f(out, c, n, b, y, j)
+}
