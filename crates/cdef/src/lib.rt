@@ -168,7 +168,6 @@ fn cdef_on(out: &mut [u8], c: Cursor, planes: u32, p: CdefParams) -> Step
         out,
         c,
         2,
-        4,
         p.cdef_damping - 3,
         p.cdef_bits,
         CDEF_DAMPING,

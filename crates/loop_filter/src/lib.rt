@@ -56,18 +56,7 @@ fn chroma_levels(out: &mut [u8], c: Cursor, coded: bool, u: u32, v: u32) -> Step
     ensures { λ s. ⌜ Walked (chroma-levels coded .enc (u, v)) c (now (out .entry)) s (now (out .exit)) ⌝ }
 {
     if coded {
-        return pair(
-            out,
-            c,
-            6,
-            64,
-            u,
-            v,
-            LOOP_FILTER_LEVEL,
-            2,
-            LOOP_FILTER_LEVEL,
-            3,
-        );
+        return pair(out, c, 6, u, v, LOOP_FILTER_LEVEL, 2, LOOP_FILTER_LEVEL, 3);
     }
     Step::Next(c)
 }
@@ -77,18 +66,7 @@ fn levels(out: &mut [u8], c: Cursor, planes: u32, p: LoopFilterParams) -> Step
 {
     let a = p.loop_filter_level[0];
     let b = p.loop_filter_level[1];
-    let s = pair(
-        out,
-        c,
-        6,
-        64,
-        a,
-        b,
-        LOOP_FILTER_LEVEL,
-        0,
-        LOOP_FILTER_LEVEL,
-        1,
-    );
+    let s = pair(out, c, 6, a, b, LOOP_FILTER_LEVEL, 0, LOOP_FILTER_LEVEL, 1);
     let Step::Next(c) = s else {
         return s;
     };

@@ -1,13 +1,11 @@
 -- Fields one behind another, stored as one.
 use mathlib.Core.Path.{_≡_, refl, sym, ap, _∙_}
-use mathlib.Core.List.{List, _∷_, _++_, append-assoc}
+use mathlib.Core.List.{List, append-assoc}
 use mathlib.Core.Bool.{true}
-use Prim.Native.Nat.{ℕ, zero, suc, _+_, _*_, _^_, _/_, _%_, _<_}
+use Prim.Native.Nat.{ℕ, _+_, _*_, _^_, _<_}
 use native.Mathlib.Omega.{arith}
-use native.Mathlib.Nat.{zero-add, suc-add, add-comm}
-use lib.Arith.{digits-div, digits-mod, digits-lt}
-use lib.Dec.{eqb}
-use lib.Pow.{shr-shr, pow-add}
+use lib.Arith.{digits-lt}
+use lib.Pow.{pow-add}
 use borrow.Author.Tests.{lt-ltb}
 use Rattle.bits.specs.Bits.{Bits, bitAt, toBits}
 use Rattle.bits.specs.Walk.{Walk, field, mark, _⊕_, End, done, refused, Out, wrote, after, join, run, Walked}
@@ -16,19 +14,8 @@ use Rattle.bits.specs.declared.answer.Refusal.{Refusal}
 use Rattle.bits.specs.declared.answer.Step.{Step}
 use Rattle.bits.specs.declared.answer.Step.the-variants.{Next, Refused}
 use Rattle.bits.proofs.Laws.{joined}
-use Rattle.bits.proofs.Numbers.{toBits-mod}
+use Rattle.bits.proofs.Words.{bits-join}
 use Rattle.bits.proofs.Walking.{as-run, hop, halt}
-
-bits-split : (k m v : ℕ) → toBits (k + m) v ≡ toBits k (v / 2 ^ m) ++ toBits m v
-unfolding toBits bitAt
-bits-split zero m v = rw zero-add
-bits-split (suc k) m v = rw (suc-add, shr-shr, add-comm m k) (ap (λ (l : Bits). eqb (v / 2 ^ (k + m) % 2) 1 ∷ l) (bits-split k m v))
-
--- a number x of m bits behind another
-bits-join : (k m v x : ℕ) → x < 2 ^ m → toBits (k + m) (v * 2 ^ m + x) ≡ toBits k v ++ toBits m x
-bits-join k m v x h =
-    let t : toBits m (v * 2 ^ m + x) ≡ toBits m x = sym (toBits-mod m m (v * 2 ^ m + x) (omega arith)) ∙ ap (toBits m) (digits-mod v h) in
-    bits-split k m (v * 2 ^ m + x) ∙ rw (digits-div v h, t)
 
 -- a field that fits
 pub field-run : (n v e i : ℕ) → v < 2 ^ n → run (field n v e i) ≡ wrote (toBits n v)

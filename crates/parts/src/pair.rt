@@ -2,29 +2,18 @@
 use bits::answer::Cursor;
 use bits::answer::Step;
 use writer::f;
-ghost use mathlib.Core.Path.{_≡_};
-ghost use Prim.Native.Nat.{_^_, _≤_};
 ghost use Rattle.bits.specs.Walk.{Walked, field, _⊕_};
 
-// The numbers a and b, of the elements x and y with their indexes; top is 2^n.
-pub fn pair(
-    out: &mut [u8],
-    c: Cursor,
-    n: u32,
-    top: u32,
-    a: u32,
-    b: u32,
-    x: u8,
-    i: u8,
-    y: u8,
-    j: u8,
-) -> Step
-    requires { ⌜ (n ≤ 16) × (top ≡ 2 ^ n) ⌝ }
+// The numbers a and b, of the elements x and y with their indexes.
+pub fn pair(out: &mut [u8], c: Cursor, n: u32, a: u32, b: u32, x: u8, i: u8, y: u8, j: u8) -> Step
     ensures { λ s. ⌜ Walked (field n a x i ⊕ field n b y j) c (now (out .entry)) s (now (out .exit)) ⌝ }
 {
-    if a < top {
-        if b < top {
-            return f(out, c, n * 2, a * top + b, x, i);
+    if n <= 16 {
+        let top = 1u32 << n;
+        if a < top {
+            if b < top {
+                return f(out, c, n * 2, a * top + b, x, i);
+            }
         }
     }
     let s = f(out, c, n, a, x, i);

@@ -156,7 +156,7 @@ fn v_matrix(out: &mut [u8], c: Cursor, separate: bool, u: u32, v: u32) -> Step
 fn matrices(out: &mut [u8], c: Cursor, separate: bool, q: QuantizationParams) -> Step
     ensures { λ s. ⌜ Walked (matrices separate .enc (matrices-out q)) c (now (out .entry)) s (now (out .exit)) ⌝ }
 {
-    let s = pair(out, c, 4, 16, q.qm_y, q.qm_u, QM_Y, 0, QM_U, 0);
+    let s = pair(out, c, 4, q.qm_y, q.qm_u, QM_Y, 0, QM_U, 0);
     let Step::Next(c) = s else {
         return s;
     };

@@ -130,7 +130,7 @@ fn value_code(j: usize, half: u32, v: i16) -> u32
 {
     let limit = feature_max(j);
     if j < 5 {
-        return complement(clip3(-limit, limit, v), half);
+        return complement(clip3(-limit, limit, v), half as u16);
     }
     clip3(0, limit, v) as u32
 }

@@ -8,5 +8,5 @@ pub value-code-spec : {M : Type 1} → statement M
 value-code-spec =
     tie.close
     (tie.spec
-    (λ c κs. search needs) (λ c. search neg-fits) (λ c κs. search needs) (λ c κs. search needs) (λ c. search code-signed)
+    (λ c κs. search needs) (λ c. search neg-fits) (λ c κs. search needs) (λ c. search needs) (λ c κs. search needs) (λ c. search code-signed)
     (λ c κs. search needs) (λ c. search (cast-sign, cast-fits)) (λ c. search code-unsigned))
