@@ -15,7 +15,7 @@ ghost use Rattle.sequence.specs.Timing.{no-timing-info, no-decoder-model-info};
 ghost use Rattle.sequence_reader.specs.Zeros.{no-operating-points, no-timing, no-record};
 ghost use Rattle.sequence_reader.specs.Reader.{refusedAs};
 
-const NONE: OperatingPoint = OperatingPoint {
+pub const NONE: OperatingPoint = OperatingPoint {
     idc: 0,
     seq_level_idx: 0,
     seq_tier: 0,
@@ -27,7 +27,7 @@ const NONE: OperatingPoint = OperatingPoint {
     initial_display_delay_minus_1: 0,
 };
 
-// Written out, since LLVM takes a repeat of 32 apart, and then moves the array field by field.
+// Written out: LLVM takes a repeat apart and moves the array field by field, unless it is stored into by an index that it does not know, as in `operating_points`.
 pub fn no_operating_points() -> [OperatingPoint; 32]
     ensures { λ r. ⌜ r ≡ no-operating-points ⌝ }
 {

@@ -9,6 +9,7 @@ use crate::got::why_operating_parameters_info;
 use crate::got::why_operating_point;
 use crate::got::why_point_delay;
 use crate::got::why_point_model;
+use crate::none::NONE;
 use crate::none::no_operating_points;
 use crate::none::no_points;
 use crate::optional::f_if;
@@ -207,7 +208,7 @@ fn operating_points(
     requires { ⌜ n ≤ 32 ⌝ }
     ensures { λ r. ⌜ Beside (operating-points «has_model» (min k 32) «has_delay» n .dec) (now (s .entry)) c (r .outcome) (r .«operating_points») ⌝ }
 {
-    let mut operating_points = no_operating_points();
+    let mut operating_points = [NONE; 32];
     let mut at = c;
     let mut i: u32 = 0;
     while i < n {
