@@ -20,7 +20,7 @@ unfolding array via _▷_ choose absent
 array-none z item n zero i bs h = refl
 array-none z item n (suc m) i bs h = rw (le-ltb i n h, array-none z item n m (suc i) bs (omega arith))
 
-pub none-reads : {A : Type 0} (z : A) (item : ℕ → Codec A) (n m i : ℕ) {xs : List ℕ} {p : Cursor} → n ≤ i → Reads (array z item m i n .dec) xs p (value (replicate m z) p)
+none-reads : {A : Type 0} (z : A) (item : ℕ → Codec A) (n m i : ℕ) {xs : List ℕ} {p : Cursor} → n ≤ i → Reads (array z item m i n .dec) xs p (value (replicate m z) p)
 unfolding found moved
 none-reads z item n m i h = record { finds = array-none z item n m i _ h; moves = refl }
 
@@ -30,11 +30,11 @@ chosen b t u h r = record { finds = rw h (r .finds); moves = r .moves }
 
 -- a place that is coded, and the others
 module _ {A C : Type 0} (z : A) (item : ℕ → Codec A) (n m i : ℕ) (make : List A → C) {xs : List ℕ} {p : Cursor} (h : i < n) where
-  pub array-on : {a : A} {q : Cursor} {r : Answer C} → Reads (item i .dec) xs p (value a q) → Reading (λ more. make (a ∷ more)) (array z item m (suc i) n) xs q r → Reading make (array z item (suc m) i n) xs p r
+  array-on : {a : A} {q : Cursor} {r : Answer C} → Reads (item i .dec) xs p (value a q) → Reading (λ more. make (a ∷ more)) (array z item m (suc i) n) xs q r → Reading make (array z item (suc m) i n) xs p r
   unfolding array
   array-on s g = struct (uncons z) (λ p. p .0 ∷ p .1) _ (read-on _ _ _ (chosen (ltb i n) (item i) (absent z) (lt-ltb i n h) s) g)
 
-  pub array-halt : {y : Refusal} → Reads (item i .dec) xs p (refused y) → Reading make (array z item (suc m) i n) xs p (refused y)
+  array-halt : {y : Refusal} → Reads (item i .dec) xs p (refused y) → Reading make (array z item (suc m) i n) xs p (refused y)
   unfolding array
   array-halt s = struct (uncons z) (λ p. p .0 ∷ p .1) _ (read-halt _ _ _ (chosen (ltb i n) (item i) (absent z) (lt-ltb i n h) s))
 

@@ -1,41 +1,25 @@
 -- How a value is read that stands beside its outcome.
 use mathlib.Core.Path.{_≡_, refl, sym, ap, _∙_}
 use mathlib.Core.List.{List}
-use mathlib.Core.Bool.{Bool, true, false}
 use Prim.Native.Nat.{ℕ}
 use Rattle.bits.specs.Bits.{from}
-use Rattle.bits.specs.Codec.{Codec, Got, got, stop, andThen, choose, _▷_, nil}
+use Rattle.bits.specs.Codec.{Codec, Got, got, stop, andThen, _▷_, nil}
 use Rattle.bits.specs.Answers.{Answer, value, refused, why, found, moved, Reads, Reading, reading, step}
 use Rattle.bits.specs.declared.answer.Cursor.{Cursor}
 use Rattle.bits.specs.declared.answer.Refusal.{Refusal}
 use Rattle.bits.specs.declared.answer.Step.{Step}
 use Rattle.bits.specs.declared.answer.Step.the-variants as S
 use Rattle.bits.proofs.Laws.{stop-got, got-value, got-rest}
-use Rattle.bits.proofs.Reading.{read-on, read-halt, read-last, read-no, left-all}
+use Rattle.bits.proofs.Reading.{read-on, read-halt, read-last, read-no}
 use Rattle.sequence_reader.specs.Beside.{answerOf, Beside, beside}
 
--- a value beside its outcome
-module _ {A : Type 0} (t : Codec A) {xs : List ℕ} {c : Cursor} {a : A} where
-  pub beside-value : {q : Cursor} → Reading (λ (a : A). a) t xs c (value a q) → Beside (t .dec) xs c (S.Next q) a
-  unfolding answerOf
-  beside-value g = beside (left-all t .rest _ g)
-
-  pub beside-no : {s : Step} {y : Refusal} → s ≡ S.Refused y → Reading (λ (a : A). a) t xs c (refused y) → Beside (t .dec) xs c s a
-  unfolding answerOf
-  beside-no h g = rw h (beside (left-all t .rest _ g))
-
-  pub beside-all : {s : Step} → Reading (λ (a : A). a) t xs c (answerOf s a) → Beside (t .dec) xs c s a
-  beside-all g = beside (left-all t .rest _ g)
-
+-- the answer of a call, made into a larger value
 pub besides : {A C : Type 0} (t : Codec A) {make : A → C} {xs : List ℕ} {p : Cursor} (a : A) (s : Step) → Reads (t .dec) xs p (answerOf s a) → Reading make t xs p (answerOf s (make a))
 unfolding answerOf
 besides t {make} a (S.Next q) r = read-last make r refl
 besides t {make} a (S.Refused y) r = read-no make r
 
-module _ {A C : Type 0} (t : Codec A) {make : A → C} {xs : List ℕ} {p : Cursor} {a : A} {s : Step} where
-  pub last-beside : {d : C} → Beside (t .dec) xs p s a → d ≡ make a → Reading make t xs p (answerOf s d)
-  last-beside (beside r) h = rw h (besides t a s r)
-
+-- a step beside its outcome: its value, and what comes behind it; its refusal
 module _ {A B C : Type 0} (t : Codec A) (k : A → Codec B) {make : A × B → C} {xs : List ℕ} {p : Cursor} {a : A} {s : Step} where
   pub on-beside : {q : Cursor} {r : Answer C} → Beside (t .dec) xs p s a → s ≡ S.Next q → Reading (λ b. make (a, b)) (k a) xs q r → Reading make (t ▷ k) xs p r
   unfolding answerOf
@@ -44,16 +28,6 @@ module _ {A B C : Type 0} (t : Codec A) (k : A → Codec B) {make : A × B → C
   pub halt-beside : {y z : Refusal} → Beside (t .dec) xs p s a → s ≡ S.Refused z → y ≡ why (step .view s) → Reading make (t ▷ k) xs p (refused y)
   unfolding answerOf
   halt-beside {y} {z} (beside r) h w = let u : y ≡ z = w ∙ ap (λ (x : Step). why (step .view x)) h in rw u (read-halt t k make (rw h at r))
-
--- a branch
-module _ {A : Type 0} (b : Bool) (t u : Codec A) {xs : List ℕ} {c : Cursor} {o : Step} {a : A} where
-  pub beside-yes : b ≡ true → Beside (t .dec) xs c o a → Beside (choose b t u .dec) xs c o a
-  unfolding choose
-  beside-yes h (beside r) = beside (record { finds = rw h (r .finds); moves = r .moves })
-
-  pub beside-not : b ≡ false → Beside (u .dec) xs c o a → Beside (choose b t u .dec) xs c o a
-  unfolding choose
-  beside-not h (beside r) = beside (record { finds = rw h (r .finds); moves = r .moves })
 
 -- what was made of a table's value
 pub undone : {A B C : Type 0} {h : A → B} {t : Codec A} {xs : List ℕ} {p : Cursor} {b : B} {q : Cursor} (make : B → C) → Reading h t xs p (value b q) → Reading (λ a. make (h a)) t xs p (value (make b) q)

@@ -21,6 +21,7 @@ use Rattle.sequence.specs.declared.group.ColorDescription.{ColorDescription}
 use Rattle.sequence.specs.declared.group.Sampling.{Sampling}
 use Rattle.sequence.specs.declared.group.Planes.{Planes}
 use Rattle.sequence.specs.declared.record.ColorConfig.{ColorConfig}
+use Rattle.sequence_reader.specs.declared.got.General.{General}
 use Rattle.sequence_reader.specs.declared.got.Rest.{Rest}
 use Rattle.sequence_reader.specs.declared.got.GotByte.{GotByte}
 use Rattle.sequence_reader.specs.declared.got.GotByte.the-variants as Byte
@@ -38,6 +39,8 @@ use Rattle.sequence_reader.specs.declared.got.GotPointDelay.{GotPointDel
 use Rattle.sequence_reader.specs.declared.got.GotPointDelay.the-variants as VPointDelay
 use Rattle.sequence_reader.specs.declared.got.GotOperatingPoint.{GotOperatingPoint}
 use Rattle.sequence_reader.specs.declared.got.GotOperatingPoint.the-variants as VOperatingPoint
+use Rattle.sequence_reader.specs.declared.got.GotGeneral.{GotGeneral}
+use Rattle.sequence_reader.specs.declared.got.GotGeneral.the-variants as VGeneral
 use Rattle.sequence_reader.specs.declared.got.GotFrameSize.{GotFrameSize}
 use Rattle.sequence_reader.specs.declared.got.GotFrameSize.the-variants as VFrameSize
 use Rattle.sequence_reader.specs.declared.got.GotFrameIds.{GotFrameIds}
@@ -152,6 +155,17 @@ seenOperatingPoint (VOperatingPoint.Refused r) = refl
 
 abbrev pub operating-point : Form GotOperatingPoint OperatingPoint
 operating-point = record { val = VOperatingPoint.Value; ref = VOperatingPoint.Refused; view = viewOperatingPoint; val-is = λ v c. refl; ref-is = λ r. refl; seen = seenOperatingPoint }
+
+abbrev viewGeneral : GotGeneral → Answer General
+viewGeneral (VGeneral.Value v c) = value v c
+viewGeneral (VGeneral.Refused r) = refused r
+
+pub seenGeneral : (g : GotGeneral) → made VGeneral.Value VGeneral.Refused (viewGeneral g) ≡ g
+seenGeneral (VGeneral.Value v c) = refl
+seenGeneral (VGeneral.Refused r) = refl
+
+abbrev pub general : Form GotGeneral General
+general = record { val = VGeneral.Value; ref = VGeneral.Refused; view = viewGeneral; val-is = λ v c. refl; ref-is = λ r. refl; seen = seenGeneral }
 
 abbrev viewFrameSize : GotFrameSize → Answer FrameSize
 viewFrameSize (VFrameSize.Value v c) = value v c

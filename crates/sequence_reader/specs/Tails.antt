@@ -1,7 +1,8 @@
 -- The rest of a table that a function of its own reads, and what it makes of it with what was read before.
-use mathlib.Core.Bool.{Bool, false}
+use mathlib.Core.List.{List}
+use mathlib.Core.Bool.{Bool, true, false}
 use Prim.Native.Nat.{ℕ}
-use Rattle.bits.specs.Codec.{Codec, _▷_}
+use Rattle.bits.specs.Codec.{Codec, array, _▷_}
 use Rattle.obu.specs.declared.header.ObuHeader.{ObuHeader}
 use Rattle.bits.specs.Elements.{decoder-model-info-present-flag}
 use Rattle.sequence.specs.declared.record.TimingInfo.{TimingInfo}
@@ -21,6 +22,7 @@ use Rattle.sequence.specs.declared.group.Planes.{Planes}
 use Rattle.sequence.specs.Optional.{flag-if}
 use Rattle.sequence.specs.Fields.{timing-in, PointRestTable, operating-point-in, frame-size-in, MotionTable, OrderTable, inter-tools-in, color-description-in, color-config-in, GrainTable, ToolsTable, BodyTable, SequenceTable, record-in}
 use Rattle.sequence.specs.Timing.{decoder-model-info-if}
+use Rattle.sequence.specs.Points.{operating-point, no-point, reduced-point}
 use Rattle.sequence.specs.Frame.{frame-size, frame-ids}
 use Rattle.sequence.specs.Tools.{filter-tools}
 use Rattle.sequence.specs.Sequence.{grain, tools}
@@ -53,6 +55,14 @@ color-config-with high twelve mono = λ rest. color-config-in (high, (twelve, (m
 
 abbrev pub point-with : ℕ → ℕ → PointRestTable → OperatingPoint
 point-with idc level = λ rest. operating-point-in (idc, (level, rest))
+
+-- a point of either header, and the points that are coded, the first n of 32
+unfoldable pub any-point : Bool → Bool → ℕ → Bool → ℕ → Codec OperatingPoint
+any-point true has-model k has-delay i = reduced-point
+any-point false has-model k has-delay i = operating-point has-model k has-delay i
+
+unfoldable pub point-list : Bool → Bool → ℕ → Bool → ℕ → Codec (List OperatingPoint)
+point-list reduced has-model k has-delay n = array no-point (any-point reduced has-model k has-delay) 32 0 n
 
 -- all behind the operating points
 unfoldable pub body-rest : ℕ → Bool → Codec (FrameSize × (FrameIds × ToolsTable))

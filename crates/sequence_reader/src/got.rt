@@ -15,7 +15,6 @@ use sequence::group::OperatingParametersInfo;
 use sequence::group::Planes;
 use sequence::group::PointDelay;
 use sequence::group::PointModel;
-use sequence::group::Points;
 use sequence::group::Sampling;
 use sequence::group::Timing;
 use sequence::record::ColorConfig;
@@ -43,21 +42,17 @@ pub struct Rest {
     pub film_grain_params_present: bool,
 }
 
+// All between reduced_still_picture_header and the operating points.
+pub struct General {
+    pub timing: Timing,
+    pub initial_display_delay_present_flag: bool,
+    pub operating_points_cnt_minus_1: u32,
+}
+
 // Where the value holds the array of points, it stands beside the outcome.
 pub struct PointList {
     pub outcome: Step,
     pub operating_points: [OperatingPoint; 32],
-}
-
-pub struct GotPoints {
-    pub outcome: Step,
-    pub points: Points,
-}
-
-pub struct GotGeneral {
-    pub outcome: Step,
-    pub timing: Timing,
-    pub points: Points,
 }
 
 pub enum GotTimingInfo {
@@ -92,6 +87,11 @@ pub enum GotPointDelay {
 
 pub enum GotOperatingPoint {
     Value(OperatingPoint, Cursor),
+    Refused(Refusal),
+}
+
+pub enum GotGeneral {
+    Value(General, Cursor),
     Refused(Refusal),
 }
 
@@ -229,6 +229,15 @@ pub fn why_operating_point(g: GotOperatingPoint) -> Refusal
     match g {
         GotOperatingPoint::Refused(r) => r,
         GotOperatingPoint::Value(_, _) => Refusal::Ends,
+    }
+}
+
+pub fn why_general(g: GotGeneral) -> Refusal
+    ensures { λ r. ⌜ r ≡ why (got.general .view g) ⌝ }
+{
+    match g {
+        GotGeneral::Refused(r) => r,
+        GotGeneral::Value(_, _) => Refusal::Ends,
     }
 }
 

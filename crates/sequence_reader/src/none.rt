@@ -3,7 +3,6 @@ use crate::read::Outcome;
 use crate::read::SequenceAnswer;
 use bits::answer::Refusal;
 use obu::header::ObuHeader;
-use sequence::group::Points;
 use sequence::group::Timing;
 use sequence::record::ColorConfig;
 use sequence::record::DecoderModelInfo;
@@ -15,7 +14,7 @@ ghost use Rattle.sequence.specs.Timing.{no-timing-info, no-decoder-model-info};
 ghost use Rattle.sequence_reader.specs.Zeros.{no-operating-points, no-timing, no-record};
 ghost use Rattle.sequence_reader.specs.Reader.{refusedAs};
 
-pub const NONE: OperatingPoint = OperatingPoint {
+pub const NO_POINT: OperatingPoint = OperatingPoint {
     idc: 0,
     seq_level_idx: 0,
     seq_tier: 0,
@@ -27,53 +26,10 @@ pub const NONE: OperatingPoint = OperatingPoint {
     initial_display_delay_minus_1: 0,
 };
 
-// Written out: LLVM takes a repeat apart and moves the array field by field, unless it is stored into by an index that it does not know, as in `operating_points`.
 pub fn no_operating_points() -> [OperatingPoint; 32]
     ensures { λ r. ⌜ r ≡ no-operating-points ⌝ }
 {
-    [
-        NONE,
-        NONE,
-        NONE,
-        NONE,
-        NONE,
-        NONE,
-        NONE,
-        NONE,
-        NONE,
-        NONE,
-        NONE,
-        NONE,
-        NONE,
-        NONE,
-        NONE,
-        NONE,
-        NONE,
-        NONE,
-        NONE,
-        NONE,
-        NONE,
-        NONE,
-        NONE,
-        NONE,
-        NONE,
-        NONE,
-        NONE,
-        NONE,
-        NONE,
-        NONE,
-        NONE,
-        NONE,
-    ]
-}
-
-pub fn no_points() -> Points {
-    let operating_points = no_operating_points();
-    Points {
-        initial_display_delay_present_flag: false,
-        operating_points_cnt_minus_1: 0,
-        operating_points,
-    }
+    [NO_POINT; 32]
 }
 
 pub fn no_timing_info() -> TimingInfo

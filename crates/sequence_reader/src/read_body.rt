@@ -1,4 +1,5 @@
 // 5.5.1 sequence_header_obu, read.
+use crate::got::General;
 use crate::got::GotBlockTools;
 use crate::got::GotColorConfig;
 use crate::got::GotFilterTools;
@@ -14,10 +15,10 @@ use crate::got::why_color_config;
 use crate::got::why_filter_tools;
 use crate::got::why_frame_ids;
 use crate::got::why_frame_size;
+use crate::got::why_general;
 use crate::got::why_inter_tools;
 use crate::got::why_rest;
 use crate::got::why_timing;
-use crate::none::no_points;
 use crate::none::no_timing;
 use crate::none::refuse;
 use crate::read::Outcome;
@@ -25,8 +26,7 @@ use crate::read::SequenceAnswer;
 use crate::read_color::color_config;
 use crate::read_frame::frame_ids;
 use crate::read_frame::frame_size;
-use crate::read_points::points;
-use crate::read_points::reduced_points;
+use crate::read_points::operating_points;
 use crate::read_timing::timing;
 use crate::read_tools::block_tools;
 use crate::read_tools::filter_tools;
@@ -49,14 +49,13 @@ use sequence::group::FrameIds;
 use sequence::group::FrameSize;
 use sequence::group::InterTools;
 use sequence::record::SequenceHeaderObu;
-ghost use mathlib.Core.Path.{_≡_};
+ghost use mathlib.Core.Bool.{false};
 ghost use Rattle.bits.specs.Answers.{Said, Tells};
 ghost use Rattle.bits.specs.Answers as form;
-ghost use Rattle.bits.specs.declared.answer.Step.the-variants as S;
-ghost use Rattle.sequence.specs.Sequence.{profile, full-general, reduced-general, general, tools, body, sequence-header-obu};
+ghost use Rattle.sequence.specs.Sequence.{profile, tools, body, sequence-header-obu};
 ghost use Rattle.sequence_reader.specs.Forms as got;
 ghost use Rattle.sequence_reader.specs.Tails.{rest-in, tools-with, filters-with, body-rest, tools-rest, body-with, record-with};
-ghost use Rattle.sequence_reader.specs.Beside.{Beside};
+ghost use Rattle.sequence_reader.specs.Beginning.{Begins};
 ghost use Rattle.sequence_reader.specs.Closing.{Closes};
 
 fn profile(s: &[u8], c: Cursor) -> GotNumber
@@ -72,58 +71,46 @@ fn profile(s: &[u8], c: Cursor) -> GotNumber
     GotNumber::Refused(Refusal::Inconsistent(SEQ_PROFILE, 0))
 }
 
-fn refused_general(r: Refusal) -> GotGeneral
-    ensures { λ g. ⌜ g .outcome ≡ S.Refused r ⌝ }
-{
-    let timing = no_timing();
-    let points = no_points();
-    GotGeneral {
-        outcome: Step::Refused(r),
-        timing,
-        points,
-    }
-}
-
 fn full_general(s: &[u8], c: Cursor) -> GotGeneral
-    ensures { λ r. ⌜ Beside (full-general .dec) (now (s .entry)) c (r .outcome) (r .timing, r .points) ⌝ }
+    ensures { λ r. ⌜ Begins false (now (s .entry)) c r ⌝ }
 {
     let t = timing(s, c);
     let GotTiming::Value(timing, c) = t else {
-        return refused_general(why_timing(t));
+        return GotGeneral::Refused(why_timing(t));
     };
-    let d = timing.decoder_model_info;
-    let k = d.buffer_delay_length_minus_1 as u32 + 1;
-    let p = points(s, c, timing.decoder_model_info_present_flag, k);
-    let outcome = p.outcome;
-    let points = p.points;
-    GotGeneral {
-        outcome,
-        timing,
-        points,
-    }
-}
-
-fn reduced_general(s: &[u8], c: Cursor) -> GotGeneral
-    ensures { λ r. ⌜ Beside (reduced-general .dec) (now (s .entry)) c (r .outcome) (r .timing, r .points) ⌝ }
-{
-    let p = reduced_points(s, c);
-    let outcome = p.outcome;
-    let timing = no_timing();
-    let points = p.points;
-    GotGeneral {
-        outcome,
-        timing,
-        points,
-    }
+    let b = flag(s, c);
+    let GotFlag::Value(initial_display_delay_present_flag, c) = b else {
+        return GotGeneral::Refused(why_flag(b));
+    };
+    let g = f(s, c, 5);
+    let GotNumber::Value(operating_points_cnt_minus_1, c) = g else {
+        return GotGeneral::Refused(why_number(g));
+    };
+    GotGeneral::Value(
+        General {
+            timing,
+            initial_display_delay_present_flag,
+            operating_points_cnt_minus_1,
+        },
+        c,
+    )
 }
 
 fn general(s: &[u8], c: Cursor, reduced: bool) -> GotGeneral
-    ensures { λ r. ⌜ Beside (general reduced .dec) (now (s .entry)) c (r .outcome) (r .timing, r .points) ⌝ }
+    ensures { λ r. ⌜ Begins reduced (now (s .entry)) c r ⌝ }
 {
-    if reduced {
-        return reduced_general(s, c);
+    if !reduced {
+        return full_general(s, c);
     }
-    full_general(s, c)
+    let timing = no_timing();
+    GotGeneral::Value(
+        General {
+            timing,
+            initial_display_delay_present_flag: false,
+            operating_points_cnt_minus_1: 0,
+        },
+        c,
+    )
 }
 
 // From enable_superres on.
@@ -211,12 +198,20 @@ fn body(
     ensures { λ r. ⌜ Closes (body-with «obu_header» «seq_profile» «still_picture» reduced) (body «seq_profile» reduced) (now (s .entry)) c r ⌝ }
 {
     let g = general(s, c, reduced);
-    let o = g.outcome;
+    let GotGeneral::Value(p, c) = g else {
+        return refuse(why_general(g));
+    };
+    let t = p.timing;
+    let has_model = t.decoder_model_info_present_flag;
+    let decoder_model_info = t.decoder_model_info;
+    let k = decoder_model_info.buffer_delay_length_minus_1 as u32 + 1;
+    let has_delay = p.initial_display_delay_present_flag;
+    let n = p.operating_points_cnt_minus_1 + 1;
+    let l = operating_points(s, c, reduced, has_model, k, has_delay, n);
+    let o = l.outcome;
     let Step::Next(c) = o else {
         return refuse(why_step(o));
     };
-    let t = g.timing;
-    let p = g.points;
     let r = body_rest(s, c, seq_profile, reduced);
     let GotRest::Value(rest, c) = r else {
         return refuse(why_rest(r));
@@ -226,8 +221,7 @@ fn body(
         return refuse(why_step(u));
     };
     let timing_info = t.timing_info;
-    let decoder_model_info = t.decoder_model_info;
-    let operating_points = p.operating_points;
+    let operating_points = l.operating_points;
     let size = rest.frame_size;
     let ids = rest.frame_ids;
     let block = rest.block_tools;
@@ -245,9 +239,9 @@ fn body(
         reduced_still_picture_header: reduced,
         timing_info_present_flag: t.timing_info_present_flag,
         timing_info,
-        decoder_model_info_present_flag: t.decoder_model_info_present_flag,
+        decoder_model_info_present_flag: has_model,
         decoder_model_info,
-        initial_display_delay_present_flag: p.initial_display_delay_present_flag,
+        initial_display_delay_present_flag: has_delay,
         operating_points_cnt_minus_1: p.operating_points_cnt_minus_1,
         operating_points,
         frame_width_bits_minus_1: size.frame_width_bits_minus_1,

@@ -3,21 +3,17 @@ use crate::got::GotOperatingParametersInfo;
 use crate::got::GotOperatingPoint;
 use crate::got::GotPointDelay;
 use crate::got::GotPointModel;
-use crate::got::GotPoints;
 use crate::got::PointList;
 use crate::got::why_operating_parameters_info;
 use crate::got::why_operating_point;
 use crate::got::why_point_delay;
 use crate::got::why_point_model;
-use crate::none::NONE;
-use crate::none::no_operating_points;
-use crate::none::no_points;
+use crate::none::NO_POINT;
 use crate::optional::f_if;
 use crate::optional::flag_if;
 use bits::answer::Cursor;
 use bits::answer::GotFlag;
 use bits::answer::GotNumber;
-use bits::answer::Refusal;
 use bits::answer::Step;
 use bits::answer::why_flag;
 use bits::answer::why_number;
@@ -26,15 +22,12 @@ use reader::flag;
 use sequence::group::OperatingParametersInfo;
 use sequence::group::PointDelay;
 use sequence::group::PointModel;
-use sequence::group::Points;
 use sequence::record::OperatingPoint;
-ghost use mathlib.Core.Path.{_≡_};
 ghost use Prim.Native.Nat.{min, _≤_};
 ghost use Rattle.bits.specs.Answers.{Said, Tells};
-ghost use Rattle.bits.specs.declared.answer.Step.the-variants.{Refused};
-ghost use Rattle.sequence.specs.Points.{operating-parameters-info, point-model, point-delay, point-rest, operating-point, operating-points, points, reduced-points};
+ghost use Rattle.sequence.specs.Points.{operating-parameters-info, point-model, point-delay, point-rest, operating-point, reduced-point};
 ghost use Rattle.sequence_reader.specs.Forms as got;
-ghost use Rattle.sequence_reader.specs.Tails.{point-with};
+ghost use Rattle.sequence_reader.specs.Tails.{point-with, any-point, point-list};
 ghost use Rattle.sequence_reader.specs.Beside.{Beside};
 
 // A width over 32 counts as 32, here and below.
@@ -196,23 +189,64 @@ fn operating_point(
     point_rest(s, c, idc, seq_level_idx, has_model, n, has_delay)
 }
 
-// The first n of 32 points.
-fn operating_points(
+// With the reduced header only the level is coded.
+fn reduced_point(s: &[u8], c: Cursor) -> GotOperatingPoint
+    ensures { λ r. ⌜ Said got.operating-point (reduced-point .dec) (now (s .entry)) c r ⌝ }
+{
+    let g = f(s, c, 5);
+    let GotNumber::Value(seq_level_idx, c) = g else {
+        return GotOperatingPoint::Refused(why_number(g));
+    };
+    GotOperatingPoint::Value(
+        OperatingPoint {
+            idc: 0,
+            seq_level_idx,
+            seq_tier: 0,
+            decoder_model_present_for_this_op: false,
+            decoder_buffer_delay: 0,
+            encoder_buffer_delay: 0,
+            low_delay_mode_flag: false,
+            initial_display_delay_present_for_this_op: false,
+            initial_display_delay_minus_1: 0,
+        },
+        c,
+    )
+}
+
+fn any_point(
     s: &[u8],
     c: Cursor,
+    reduced: bool,
+    has_model: bool,
+    n: u32,
+    has_delay: bool,
+) -> GotOperatingPoint
+    ensures { λ r. ⌜ Said got.operating-point (any-point reduced «has_model» (min n 32) «has_delay» 0 .dec) (now (s .entry)) c r ⌝ }
+{
+    if reduced {
+        return reduced_point(s, c);
+    }
+    operating_point(s, c, has_model, n, has_delay)
+}
+
+// The first n of 32 points.
+pub fn operating_points(
+    s: &[u8],
+    c: Cursor,
+    reduced: bool,
     has_model: bool,
     k: u32,
     has_delay: bool,
     n: u32,
 ) -> PointList
     requires { ⌜ n ≤ 32 ⌝ }
-    ensures { λ r. ⌜ Beside (operating-points «has_model» (min k 32) «has_delay» n .dec) (now (s .entry)) c (r .outcome) (r .«operating_points») ⌝ }
+    ensures { λ r. ⌜ Beside (point-list reduced «has_model» (min k 32) «has_delay» n .dec) (now (s .entry)) c (r .outcome) (r .«operating_points») ⌝ }
 {
-    let mut operating_points = [NONE; 32];
+    let mut operating_points = [NO_POINT; 32];
     let mut at = c;
     let mut i: u32 = 0;
     while i < n {
-        let g = operating_point(s, at, has_model, k, has_delay);
+        let g = any_point(s, at, reduced, has_model, k, has_delay);
         let GotOperatingPoint::Value(p, next) = g else {
             return PointList {
                 outcome: Step::Refused(why_operating_point(g)),
@@ -226,69 +260,5 @@ fn operating_points(
     PointList {
         outcome: Step::Next(at),
         operating_points,
-    }
-}
-
-fn refused_points(r: Refusal) -> GotPoints
-    ensures { λ g. ⌜ g .outcome ≡ Refused r ⌝ }
-{
-    let points = no_points();
-    GotPoints {
-        outcome: Step::Refused(r),
-        points,
-    }
-}
-
-pub fn points(s: &[u8], c: Cursor, has_model: bool, k: u32) -> GotPoints
-    ensures { λ r. ⌜ Beside (points «has_model» (min k 32) .dec) (now (s .entry)) c (r .outcome) (r .points) ⌝ }
-{
-    let b = flag(s, c);
-    let GotFlag::Value(has_delay, c) = b else {
-        return refused_points(why_flag(b));
-    };
-    let g = f(s, c, 5);
-    let GotNumber::Value(count, c) = g else {
-        return refused_points(why_number(g));
-    };
-    let n = count + 1;
-    let l = operating_points(s, c, has_model, k, has_delay, n);
-    let outcome = l.outcome;
-    let operating_points = l.operating_points;
-    let points = Points {
-        initial_display_delay_present_flag: has_delay,
-        operating_points_cnt_minus_1: count,
-        operating_points,
-    };
-    GotPoints { outcome, points }
-}
-
-// With the reduced header only the level of one point is coded.
-pub fn reduced_points(s: &[u8], c: Cursor) -> GotPoints
-    ensures { λ r. ⌜ Beside (reduced-points .dec) (now (s .entry)) c (r .outcome) (r .points) ⌝ }
-{
-    let g = f(s, c, 5);
-    let GotNumber::Value(seq_level_idx, c) = g else {
-        return refused_points(why_number(g));
-    };
-    let mut operating_points = no_operating_points();
-    operating_points[0] = OperatingPoint {
-        idc: 0,
-        seq_level_idx,
-        seq_tier: 0,
-        decoder_model_present_for_this_op: false,
-        decoder_buffer_delay: 0,
-        encoder_buffer_delay: 0,
-        low_delay_mode_flag: false,
-        initial_display_delay_present_for_this_op: false,
-        initial_display_delay_minus_1: 0,
-    };
-    let points = Points {
-        initial_display_delay_present_flag: false,
-        operating_points_cnt_minus_1: 0,
-        operating_points,
-    };
-    GotPoints {
-        outcome: Step::Next(c),
-        points,
     }
 }

@@ -1,5 +1,5 @@
 use borrow.Author.Needs.{needs}
-use Rattle.sequence_reader.proofs.SequenceReading.{full-stop, width-fits, full-read}
+use Rattle.sequence_reader.proofs.SequenceReading.{full-stop, no-delay, no-count, all-general}
 use Rattle.sequence_reader.proofs.read_body.full_general.Statement.{statement}
 use Rattle.sequence_reader.proofs.read_body.full_general.Tie as tie
 
@@ -7,6 +7,7 @@ pub full-general-spec : {M : Type 1} → statement M
 full-general-spec =
     tie.close
     (tie.spec
-    (λ c κs. search needs) (λ c. search needs) (λ c. search needs) (λ c κs. search needs) (λ c κs. search needs) (λ c. search full-stop)
-    (λ c. search needs) (λ c. record { fits = search width-fits })
-    (λ c κs. search needs) (λ c. search full-read))
+    (λ c κs. search needs) (λ c. search needs) (λ c. search needs) (λ c κs. search needs) (λ c. search full-stop)
+    (λ c κs. search needs) (λ c. search needs) (λ c. search needs) (λ c κs. search needs) (λ c. search no-delay)
+    (λ c κs. search needs) (λ c. search needs) (λ c. search needs) (λ c κs. search needs) (λ c. search no-count)
+    (λ c. search all-general))
