@@ -73,9 +73,9 @@ fn window(s: &[u8], i: usize, m: u32) -> u64
     v
 }
 
-// The n bits from a place on, where there are at least forty: at once all the bytes that n bits can lie in, whatever the place.
+// The n bits from a place on, where there are fourteen more: at once all the bytes that n bits can lie in, whatever the place.
 fn by_window(s: &[u8], at: usize, n: u32) -> u32
-    requires { ⌜ (n ≤ 32) × (at + 40 ≤ end (now s)) ⌝ }
+    requires { ⌜ (n ≤ 32) × (at + n + 14 ≤ end (now s)) ⌝ }
     ensures { λ r. ⌜ f n 0 0 .dec (from (now (s .entry)) at) ≡ got r (from (now (s .entry)) (at + n)) ⌝ }
 {
     let m = (n + 14) / 8;
@@ -114,7 +114,7 @@ pub fn f(s: &[u8], c: Cursor, n: u32) -> GotNumber
     let next = Cursor {
         at: at + width as usize,
     };
-    if 40 <= left {
+    if width as usize + 14 <= left {
         return GotNumber::Value(by_window(s, at, width), next);
     }
     GotNumber::Value(by_bytes(s, at, width), next)

@@ -242,6 +242,7 @@ pub fn operating_points(
     requires { ⌜ n ≤ 32 ⌝ }
     ensures { λ r. ⌜ Beside (point-list reduced «has_model» (min k 32) «has_delay» n .dec) (now (s .entry)) c (r .outcome) (r .«operating_points») ⌝ }
 {
+    // Not by `no_operating_points`: out of a call LLVM moves the array field by field.
     let mut operating_points = [NO_POINT; 32];
     let mut at = c;
     let mut i: u32 = 0;

@@ -9,5 +9,5 @@ f-spec =
     (tie.spec
     (λ c κs. search needs) (λ c κs. search needs) (λ c. search needs) (λ c. search field-ends)
     (λ c. search needs) (λ c. record { fits = search field-fits })
-    (λ c κs. search needs) (λ c. search field-there)
+    (λ c. search needs) (λ c. search needs) (λ c κs. search needs) (λ c. search field-there)
     (λ c κs. search needs) (λ c. search field-there))
