@@ -109,13 +109,13 @@ run() {
   few=5 many=10
   echo "reading 65,536 bytes, of them 65,524 padding: $(calls ours pad 65536)"
 }
-profile() {
-  if [ "$(uname -m)" = x86_64 ]; then
-    valgrind --tool=callgrind --callgrind-out-file=callgrind.out ./driver "$@" "$many" > /dev/null 2>&1
-    callgrind_annotate callgrind.out | head -40
-    return
-  fi
-  for n in $few $many; do $emulator -plugin ./icount.so,sym=on ./driver "$@" "$n" 2> "profile.$n"; done
+profile() { # instructions per call, by function
+  for n in $few $many; do
+    if [ "$(uname -m)" = x86_64 ]; then
+      env -i PATH="$PATH" valgrind --tool=callgrind --callgrind-out-file=callgrind.out ./driver "$@" "$n" > /dev/null 2>&1
+      callgrind_annotate --threshold=100 callgrind.out | sed -n 's/^ *\([0-9,]*\) ([^)]*)  *\([^ ]*:[^ ]*\).*/symbol \1 \2/p' | tr -d , > "profile.$n"
+    else $emulator -plugin ./icount.so,sym=on ./driver "$@" "$n" 2> "profile.$n"; fi
+  done
   awk -v n=$((many - few)) 'NR == FNR { a[$3] = $2; next } /^symbol/ { d = ($2 - a[$3]) / n; if (d >= 1) print d, $3 == "?" ? "(shared libraries)" : $3 }' "profile.$few" "profile.$many" | sort -rn | head -25
 }
 
