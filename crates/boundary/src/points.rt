@@ -1,9 +1,9 @@
 // The operating points: nine numbers each.
+use sequence::record::NO_POINT;
 use sequence::record::OperatingPoint;
 ghost use mathlib.Core.Path.{_≡_};
 ghost use Prim.Native.Nat.{_<_};
 ghost use lib.ListN.{take};
-ghost use Rattle.sequence.specs.Points.{no-point};
 ghost use Rattle.boundary.specs.Numbers.{at, each};
 ghost use Rattle.boundary.specs.Sequence.{point-of, used};
 
@@ -26,22 +26,6 @@ fn operating_point(n: &[u32; 347], i: usize) -> OperatingPoint
     }
 }
 
-fn no_point() -> OperatingPoint
-    ensures { λ r. ⌜ r ≡ no-point ⌝ }
-{
-    OperatingPoint {
-        idc: 0,
-        seq_level_idx: 0,
-        seq_tier: 0,
-        decoder_model_present_for_this_op: false,
-        decoder_buffer_delay: 0,
-        encoder_buffer_delay: 0,
-        low_delay_mode_flag: false,
-        initial_display_delay_present_for_this_op: false,
-        initial_display_delay_minus_1: 0,
-    }
-}
-
 // How many points a header with this count uses.
 pub fn used(count: u32) -> usize
     ensures { λ r. ⌜ r ≡ used count ⌝ }
@@ -53,8 +37,7 @@ pub fn used(count: u32) -> usize
 pub fn operating_points(n: &[u32; 347]) -> [OperatingPoint; 32]
     ensures { λ r. ⌜ take (used (at (now (n .entry)) 19)) r ≡ each (used (at (now (n .entry)) 19)) (point-of (now (n .entry))) ⌝ }
 {
-    let none = no_point();
-    let mut points = [none; 32];
+    let mut points = [NO_POINT; 32];
     for i in 0..used(n[19]) {
         points[i] = operating_point(n, i);
     }

@@ -30,6 +30,19 @@ pub struct OperatingPoint {
     pub initial_display_delay_minus_1: u32,
 }
 
+// A point that is not used.
+pub const NO_POINT: OperatingPoint = OperatingPoint {
+    idc: 0,
+    seq_level_idx: 0,
+    seq_tier: 0,
+    decoder_model_present_for_this_op: false,
+    decoder_buffer_delay: 0,
+    encoder_buffer_delay: 0,
+    low_delay_mode_flag: false,
+    initial_display_delay_present_for_this_op: false,
+    initial_display_delay_minus_1: 0,
+};
+
 // 5.5.2
 pub struct ColorConfig {
     pub high_bitdepth: bool,

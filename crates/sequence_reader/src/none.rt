@@ -6,6 +6,7 @@ use obu::header::ObuHeader;
 use sequence::group::Timing;
 use sequence::record::ColorConfig;
 use sequence::record::DecoderModelInfo;
+use sequence::record::NO_POINT;
 use sequence::record::OperatingPoint;
 use sequence::record::SequenceHeaderObu;
 use sequence::record::TimingInfo;
@@ -13,18 +14,6 @@ ghost use mathlib.Core.Path.{_≡_};
 ghost use Rattle.sequence.specs.Timing.{no-timing-info, no-decoder-model-info};
 ghost use Rattle.sequence_reader.specs.Zeros.{no-operating-points, no-timing, no-record};
 ghost use Rattle.sequence_reader.specs.Reader.{refusedAs};
-
-pub const NO_POINT: OperatingPoint = OperatingPoint {
-    idc: 0,
-    seq_level_idx: 0,
-    seq_tier: 0,
-    decoder_model_present_for_this_op: false,
-    decoder_buffer_delay: 0,
-    encoder_buffer_delay: 0,
-    low_delay_mode_flag: false,
-    initial_display_delay_present_for_this_op: false,
-    initial_display_delay_minus_1: 0,
-};
 
 pub fn no_operating_points() -> [OperatingPoint; 32]
     ensures { λ r. ⌜ r ≡ no-operating-points ⌝ }

@@ -18,4 +18,4 @@ operating-points-spec =
     (tie.spec
     Inv-loop
     μ-loop
-    (λ c κs. search needs) (λ c. search needs) (λ c κs. search needs) (λ c. filled-none _) (λ c κs. search needs) (λ c. search needs) (λ c. search needs) (λ c. search needs) (λ c. search needs) (λ c. search part-on) (λ c. search part-end))
+    (λ c. search needs) (λ c κs. search needs) (λ c. filled-none _) (λ c κs. search needs) (λ c. search needs) (λ c. search needs) (λ c. search needs) (λ c. search needs) (λ c. search part-on) (λ c. search part-end))
