@@ -22,7 +22,8 @@ use Rattle.bits.proofs.Pieces.{take-put, drop-put, put-out}
 use Rattle.bits.proofs.Places.{end-is, put-bits, put-front}
 use Rattle.parts.specs.declared.answer.Answer.{Answer}
 use Rattle.parts.specs.declared.answer.Answer.the-variants.{Done, Refused}
-use Rattle.parts.specs.Written.{Written, keep, bytesTo, afterWalk, written, Writes, writes, lent, afterNear, settled, Settles, settles}
+use Rattle.parts.specs.Settled.{lent, afterNear, settled, Settles, settles}
+use Rattle.parts.specs.Written.{Written, keep, bytesTo, afterWalk, written, Writes, writes}
 
 -- Two answers that the contract allows are equal, and so are two contents of the slice.
 pub only : {w : Walk} {place : ℕ} {xs ys zs : List ℕ} {r s : Answer} → Writes w place xs r ys → Writes w place xs s zs → (r ≡ s) × (ys ≡ zs)

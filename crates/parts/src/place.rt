@@ -5,7 +5,7 @@ use bits::answer::Refusal;
 use bits::answer::Step;
 ghost use mathlib.Core.Path.{_≡_};
 ghost use Prim.Native.Nat.{_%_};
-ghost use Rattle.parts.specs.Written.{lent, Settles};
+ghost use Rattle.parts.specs.Settled.{lent, Settles};
 
 // The bytes of `out` from that of the place on, as many as both have, at the start of `near`.
 pub fn lend(out: &[u8], place: u32, near: &mut [u8])

@@ -5,7 +5,7 @@ use native.Mathlib.Omega.{arith}
 use lib.ListN.{length, take, drop, length-take, length-drop, drop-of-length-le}
 use lib.Seq.{take-length, drop-length, take-all, take-nil, length-take-le}
 use borrow.Author.Needs.{needs}
-use Rattle.parts.specs.Written.{lent}
+use Rattle.parts.specs.Settled.{lent}
 use Rattle.parts.proofs.place.lend.Statement.{statement}
 use Rattle.parts.proofs.place.lend.Tie as tie
 

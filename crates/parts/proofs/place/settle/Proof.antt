@@ -13,7 +13,8 @@ use Rattle.bits.specs.declared.answer.Refusal.the-variants.{Short, Long}
 use Rattle.bits.specs.declared.answer.Step.{Step}
 use Rattle.bits.specs.declared.answer.Step.the-variants as S
 use Rattle.parts.specs.declared.answer.Answer.the-variants.{Done, Refused}
-use Rattle.parts.specs.Written.{bytesTo, settled, Settles, settles}
+use Rattle.parts.specs.Settled.{settled, Settles, settles}
+use Rattle.parts.specs.Written.{bytesTo}
 use Rattle.parts.proofs.place.settle.Statement.{statement}
 use Rattle.parts.proofs.place.settle.Tie as tie
 
