@@ -1,7 +1,7 @@
 -- 5.9.19: the parameters of the constrained directional enhancement filter. Each table is the contract of the writer's function of its name.
 use mathlib.Core.List.{List}
 use mathlib.Core.Bool.{cond, not, _||_}
-use Prim.Native.Nat.{ℕ, _+_, _-_, _*_, _^_}
+use Prim.Native.Nat.{ℕ, _+_, _-_, _^_}
 use lib.Dec.{eqb, ltb}
 use Rattle.bits.specs.Codec.{Codec, f, absent, inferred, choose, checked, recode, via, array, _▷_}
 use Rattle.bits.specs.Elements.{cdef-bits, cdef-y-pri-strength, cdef-y-sec-strength, cdef-uv-pri-strength, cdef-uv-sec-strength, cdef-damping}
@@ -39,10 +39,6 @@ none = ((0, 0), (0, 0))
 
 unfoldable pub strength : ℕ → ℕ → ℕ → Codec Strength
 strength primary second i = f 4 primary i ▷ λ _. secondary second i
-
--- the six bits of a strength as one number, or 64 where it is refused
-unfoldable pub packed : ℕ → ℕ → ℕ
-packed p s = cond (ltb p 16) (cond (ltb s 3) (p * 4 + s) (cond (eqb s 4) (p * 4 + 3) 64)) 64
 
 unfoldable pub strengths : ℕ → ℕ → Codec Strengths
 strengths planes i =

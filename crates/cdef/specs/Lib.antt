@@ -1,1 +1,2 @@
 pub mod Cdef
+pub mod Packed

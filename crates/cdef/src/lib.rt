@@ -21,7 +21,8 @@ ghost use Prim.Native.Nat.{_≤_, _<_, _^_, min};
 ghost use lib.ListN.{getD};
 ghost use Rattle.bits.specs.Walk.{Walked};
 ghost use Rattle.parts.specs.Written.{Writes};
-ghost use Rattle.cdef.specs.Cdef.{secondary, strength, packed, strengths, each-strength, none, strengths-out, no-strength, no-strengths, cdef-on, cdef-off, cdef-params};
+ghost use Rattle.cdef.specs.Packed.{packed};
+ghost use Rattle.cdef.specs.Cdef.{secondary, strength, strengths, each-strength, none, strengths-out, no-strength, no-strengths, cdef-on, cdef-off, cdef-params};
 
 pub struct CdefParams {
     pub cdef_bits: u32,

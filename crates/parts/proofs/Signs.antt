@@ -1,9 +1,8 @@
 -- Signed numbers as the code compares and hands them on, over every width.
 use mathlib.Core.Path.{_≡_, refl, sym, ap, _∙_}
 use mathlib.Core.List.{List}
-use mathlib.Core.Logic.{⊎-elim}
 use mathlib.Core.Bool.{Bool, true, false}
-use Prim.Native.Nat.{ℕ, suc, _+_, _*_, _≤_, _<_, _^_}
+use Prim.Native.Nat.{ℕ, _<_, _^_}
 use native.Mathlib.Omega.{arith}
 use lib.IntN.{ℤ, pos, negsuc}
 use lib.Pow.{pow-pos}
@@ -12,7 +11,7 @@ use lib.Dec.{eqb}
 use mir.Syntax.{Width, w8, w16}
 use mir.Val.{SFits, toZ, ofZ, hbits}
 use mir.Facts.{toZ-ofZ}
-use borrow.Author.Tests.{lt-ltb, le-ltb, le-leb, lt-leb, eq-eqb, ne-eqb, eqb-true}
+use borrow.Author.Tests.{eq-eqb, ne-eqb, eqb-true}
 use Rattle.bits.specs.Bits.{toBits}
 use Rattle.bits.specs.Walk.{Walk, Walked, _⊕_, wrote, run}
 use Rattle.bits.specs.Codec.{Codec, f, recode}
@@ -20,10 +19,9 @@ use Rattle.bits.specs.Codes.{su-out, su}
 use Rattle.bits.specs.declared.answer.Cursor.{Cursor}
 use Rattle.bits.specs.declared.answer.Step.{Step}
 use Rattle.bits.specs.declared.answer.Step.the-variants.{Next}
-use Rattle.bits.proofs.Storing.{below-or}
 use Rattle.bits.proofs.Walking.{hop}
-use Rattle.parts.specs.Codes.{same, inferredSigned, complement}
-use Rattle.parts.proofs.Packing.{field-run, double}
+use Rattle.parts.specs.Codes.{same, inferredSigned}
+use Rattle.parts.proofs.Packing.{field-run}
 
 -- the test tells
 pub same-is : (a b : ℤ) → same a b ≡ true → a ≡ b
@@ -97,20 +95,9 @@ zero-fits w = record { sfits = pow-pos (hbits w) }
 pub zero-word : (w : Width) (a : ℤ) → SFits w a → eqb (ofZ w a) 0 ≡ same a (pos 0)
 zero-word w a f = same-word w a (pos 0) f (zero-fits w)
 
--- two's complement as the code computes it
-complement-is : (n half : ℕ) (z : ℤ) → half ≡ 2 ^ n → complement half z ≡ su-out (n + 1) z
-unfolding complement
-complement-is n half (pos m) h =
-    let p = double n half h in
-    rw p (⊎-elim (λ (l : m < half). rw (lt-ltb m half l, lt-ltb (m * 2) (half * 2) (omega arith))) (λ (l : half ≤ m). rw (le-ltb m half l, le-ltb (m * 2) (half * 2) (omega arith))) (below-or m half))
-complement-is n half (negsuc m) h =
-    let p = double n half h in
-    rw p (⊎-elim (λ (l : m < half). rw (lt-ltb m half l, le-leb (suc m * 2) (half * 2) (omega arith)) (omega arith)) (λ (l : half ≤ m). rw (le-ltb m half l, lt-leb (suc m * 2) (half * 2) (omega arith))) (below-or m half))
-
-pub complement-run : (n half code e i : ℕ) (z : ℤ) → half ≡ 2 ^ n → code ≡ complement half z → code < half * 2 → run (su (n + 1) e i .enc z) ≡ wrote (toBits (n + 1) code)
+-- su(n) of a number that it holds, by its code
+pub su-run : (n code e i : ℕ) (z : ℤ) → code ≡ su-out n z → code < 2 ^ n → run (su n e i .enc z) ≡ wrote (toBits n code)
 unfolding su recode f
-complement-run n half code e i z h q l =
-    let k : su-out (n + 1) z ≡ code = sym (q ∙ complement-is n half z h) in
-    rw k (field-run (n + 1) code e i (rw (double n half h) l))
+su-run n code e i z q l = let k : su-out n z ≡ code = sym q in rw k (field-run n code e i l)
 
 pub ruleset signs = (given, given-then, both, both-then, zero-small)

@@ -2,8 +2,8 @@
 use mathlib.Core.Path.{_≡_}
 use mathlib.Core.List.{List, [], _∷_}
 use mathlib.Core.Bool.{Bool, false, cond}
-use Prim.Native.Nat.{ℕ, _-_, _*_, _^_}
-use lib.Dec.{eqb, ltb}
+use Prim.Native.Nat.{ℕ, _^_}
+use lib.Dec.{eqb}
 use lib.IntN.{ℤ, pos, negsuc}
 use lib.Signed.{ltZ}
 use Rattle.bits.specs.Walk.{demand}
@@ -28,11 +28,6 @@ natural-out n (negsuc m) = 2 ^ n
 
 unfoldable pub natural : ℕ → ℕ → ℕ → Codec ℤ
 natural n e i = recode (natural-out n) pos (f n e i)
-
--- su(n + 1) as a number, where half is 2^n: twice that is the code of a number out of range
-unfoldable pub complement : ℕ → ℤ → ℕ
-complement half (pos m) = cond (ltb m half) m (half * 2)
-complement half (negsuc m) = cond (ltb m half) (half * 2 - 1 - m) (half * 2)
 
 -- a number held between two others
 unfoldable pub clip : ℤ → ℤ → ℤ → ℤ

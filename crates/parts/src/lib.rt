@@ -3,4 +3,3 @@ pub mod answer; // answer.rt: what a part's writer answers
 pub mod inferred; // inferred.rt: flags and deltas that are not coded
 pub mod pair; // pair.rt: two fields stored as one
 pub mod place; // place.rt: the room for a part at a place
-pub mod signed; // signed.rt: two's complement

@@ -8,17 +8,17 @@ use mir.Syntax.{w8, w16}
 use mir.Val.{SFits, toZ, ofZ}
 use Rattle.bits.specs.Walk.{Walked, field, mark, run, _⊕_}
 use Rattle.bits.specs.Codec.{merged, _▷_, flag, choose, absent}
-use Rattle.bits.specs.Codes.{su}
+use Rattle.bits.specs.Codes.{su, su-out}
 use Rattle.bits.specs.Elements.{delta-q-u-dc, delta-q-u-ac}
 use Rattle.bits.specs.declared.answer.Cursor.{Cursor}
 use Rattle.bits.specs.declared.answer.Refusal.{Refusal}
 use Rattle.bits.specs.declared.answer.Step.{Step}
 use Rattle.bits.specs.declared.answer.Step.the-variants.{Next, Refused}
 use Rattle.bits.proofs.Signs.{widened}
-use Rattle.parts.specs.Codes.{same, complement}
+use Rattle.parts.specs.Codes.{same}
 use Rattle.quantization.specs.Quantization.{read-delta-q, v-deltas, uv-deltas}
 use Rattle.parts.proofs.Flags.{clear, set-halt, set-then}
-use Rattle.parts.proofs.Signs.{same-eq, same-ne, word, word-is, zero-fits, complement-run}
+use Rattle.parts.proofs.Signs.{same-eq, same-ne, word, word-is, zero-fits, su-run}
 use Rattle.parts.proofs.Packing.{flag-field}
 
 module _ (z : ℤ) (f : SFits w8 z) where
@@ -33,10 +33,10 @@ module _ (e : ℕ) (z : ℤ) {c : Cursor} {xs ys : List ℕ} {s : Step} (f : SFi
   unfolding read-delta-q merged _▷_ flag choose absent
   delta-zero h g = clear (ap not (is-zero z f h)) g
 
-  pub delta-packed : (code : ℕ) {i k : ℕ} → (ofZ w8 z ≡ 0 → ⊥) → code ≡ complement 64 (toZ w16 (ofZ w16 (toZ w8 (ofZ w8 z)))) → code < 128 → Walked (field 8 (128 + code) i k) c xs s ys → Walked (read-delta-q e .enc z) c xs s ys
+  pub delta-packed : (code : ℕ) {i k : ℕ} → (ofZ w8 z ≡ 0 → ⊥) → code ≡ su-out 7 (toZ w16 (ofZ w16 (toZ w8 (ofZ w8 z)))) → code < 128 → Walked (field 8 (128 + code) i k) c xs s ys → Walked (read-delta-q e .enc z) c xs s ys
   unfolding read-delta-q merged _▷_ flag choose absent run
   delta-packed code h q l g =
-      let x = complement-run 6 64 code e 0 z refl (rw (widened w8 z f w16 tt) at q) l in
+      let x = su-run 7 code e 0 z (rw (widened w8 z f w16 tt) at q) l in
       rw (not-zero z f h) (flag-field 7 128 code refl x l g)
 
   pub delta-halt : {r : Refusal} → (ofZ w8 z ≡ 0 → ⊥) → Walked (mark true) c xs s ys → s ≡ Refused r → Walked (read-delta-q e .enc z) c xs s ys

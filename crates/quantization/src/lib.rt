@@ -17,11 +17,11 @@ use parts::pair::pair;
 use parts::place::lend;
 use parts::place::settle;
 use parts::place::start;
-use parts::signed::complement;
 use writer::demand;
 use writer::f;
 use writer::flag;
 use writer::su8;
+use writer::su16_code;
 ghost use Rattle.bits.specs.Walk.{Walked};
 ghost use Rattle.parts.specs.Written.{Writes};
 ghost use Rattle.quantization.specs.Quantization.{read-delta-q, diff-uv, v-coded, v-inferred, v-deltas, v-out, uv-deltas, no-uv-deltas, uv-out, chroma, chroma-out, v-matrix, matrices, matrices-out, qmatrix, qmatrix-out, quantization-params};
@@ -53,7 +53,7 @@ fn read_delta_q(out: &mut [u8], c: Cursor, delta: i8, element: u8) -> Step
     if delta == 0 {
         return flag(out, c, false);
     }
-    let code = complement(delta as i16, 64);
+    let code = su16_code(delta as i16, 7);
     if code < 128 {
         return f(out, c, 8, 128 + code, element, 0);
     }

@@ -14,16 +14,17 @@ use borrow.Author.Tests.{leb-true, lt-ltb, le-ltb}
 use Rattle.bits.specs.Bits.{toBits}
 use Rattle.bits.specs.Walk.{field, wrote, run, Walked}
 use Rattle.bits.specs.Codec.{_▷_, f, flag, absent, recode, choose}
-use Rattle.bits.specs.Codes.{su}
+use Rattle.bits.specs.Codes.{su, su-out}
 use Rattle.bits.specs.Elements.{feature-data}
 use Rattle.bits.specs.declared.answer.Cursor.{Cursor}
 use Rattle.bits.specs.declared.answer.Step.{Step}
 use Rattle.bits.proofs.Walking.{yes-lt, no-lt}
 use Rattle.bits.proofs.Signs.{cast-mag}
-use Rattle.parts.specs.Codes.{complement, clip, trimmed, natural, natural-out, zip}
-use Rattle.segmentation.specs.Segmentation.{feature-bits, feature-max, signed-value, unsigned-value, feature-value, value-code, feature}
+use Rattle.parts.specs.Codes.{clip, trimmed, natural, natural-out, zip}
+use Rattle.segmentation.specs.Packed.{value-code}
+use Rattle.segmentation.specs.Segmentation.{feature-bits, feature-max, signed-value, unsigned-value, feature-value, feature}
 use Rattle.segmentation.proofs.Clipping.{clip-signed, clip-unsigned, plain}
-use Rattle.parts.proofs.Signs.{word, complement-run}
+use Rattle.parts.proofs.Signs.{word, su-run}
 use Rattle.parts.proofs.Pairs.{zip-at}
 use Rattle.parts.proofs.Packing.{field-run, double, flag-field}
 
@@ -99,11 +100,13 @@ pub feature-at : (flags : List Bool) (values : List ℤ) (i : ℕ) {c : Cursor} 
 feature-at flags values i h g = rw (zip-at false (pos 0) flags values i) (rw (word w16 (getD values i (pos 0)) h) at g)
 
 -- The value of a feature as one number
-module _ (j half : ℕ) (limit v r : ℤ) (l : limit ≡ feature-max j) (p : pos 0 ≤ℤ limit) (f : SFits w16 limit) (g : SFits w16 v) where
-  pub code-signed : (k : ℕ) → half ≡ 2 ^ feature-bits j → j < 5 → mag r < 32768 → r ≡ clip (toZ w16 (ofZ w16 (pos 0 -ℤ toZ w16 (ofZ w16 limit)))) (toZ w16 (ofZ w16 limit)) (toZ w16 (ofZ w16 v))
-      → k ≡ complement half (toZ w16 (ofZ w16 r)) → k ≡ value-code j v
+module _ (j : ℕ) (limit v r : ℤ) (l : limit ≡ feature-max j) (p : pos 0 ≤ℤ limit) (f : SFits w16 limit) (g : SFits w16 v) where
+  pub code-signed : (k bits : ℕ) → bits ≡ feature-bits j → bits ≤ 8 → j < 5 → mag r < 32768 → r ≡ clip (toZ w16 (ofZ w16 (pos 0 -ℤ toZ w16 (ofZ w16 limit)))) (toZ w16 (ofZ w16 limit)) (toZ w16 (ofZ w16 v))
+      → k ≡ su-out (min (bits + 1) 32) (toZ w16 (ofZ w16 r)) → k ≡ value-code j v
   unfolding value-code
-  code-signed k h b m e q = q ∙ rw (word w16 r m, clip-signed limit p f v r g e, lt-ltb j 5 b, h, l)
+  code-signed k bits h n b m e q =
+      let o : min (bits + 1) 32 ≡ bits + 1 = omega arith in
+      q ∙ rw (o, h, word w16 r m, clip-signed limit p f v r g e, lt-ltb j 5 b, l)
 
   pub code-unsigned : 5 ≤ j → mag r < 32768 → r ≡ clip (pos 0) (toZ w16 (ofZ w16 limit)) (toZ w16 (ofZ w16 v)) → natAbs (toZ w16 (ofZ w16 r)) ≡ value-code j v
   unfolding value-code
@@ -112,7 +115,7 @@ module _ (j half : ℕ) (limit v r : ℤ) (l : limit ≡ feature-max j) (p : pos
 signed-run : (j i half code : ℕ) (v : ℤ) → half ≡ 2 ^ feature-bits j → j < 5 → code ≡ value-code j v → code < half * 2 → run (feature-value j i .enc v) ≡ wrote (toBits (feature-bits j + 1) code)
 unfolding value-code feature-value choose signed-value trimmed run
 signed-run j i half code v h b e l =
-    rw (lt-ltb j 5 b) (complement-run (feature-bits j) half code feature-data i (clip (negℤ (feature-max j)) (feature-max j) v) h (rw (lt-ltb j 5 b, ← h) at e) l)
+    rw (lt-ltb j 5 b) (su-run (feature-bits j + 1) code feature-data i (clip (negℤ (feature-max j)) (feature-max j) v) (rw (lt-ltb j 5 b) at e) (rw (double (feature-bits j) half h) l))
 
 unsigned-run : (j i half code : ℕ) (v : ℤ) → half ≡ 2 ^ feature-bits j → 5 ≤ j → code ≡ value-code j v → code < half → run (feature-value j i .enc v) ≡ wrote (toBits (feature-bits j) code)
 unfolding value-code feature-value choose unsigned-value trimmed natural recode f run
@@ -121,7 +124,7 @@ unsigned-run j i half code v h b e l =
     rw (le-ltb j 5 b, q) (field-run (feature-bits j) code feature-data i (rw (← h) l))
 
 -- the power of the table's bits
-pub half-is : (j bits half : ℕ) → bits ≡ feature-bits j → half ≡ 2 ^ bits → half ≡ 2 ^ feature-bits j
+half-is : (j bits half : ℕ) → bits ≡ feature-bits j → half ≡ 2 ^ bits → half ≡ 2 ^ feature-bits j
 half-is j bits half b h = h ∙ ap (λ (n : ℕ). 2 ^ n) b
 
 pub apart : (on : Bool) (v : ℤ) (i : ℕ) {c : Cursor} {xs ys : List ℕ} {s : Step} → mag v < 32768 → Walked (feature i .enc (on, toZ w16 (ofZ w16 v))) c xs s ys → Walked (feature i .enc (on, v)) c xs s ys

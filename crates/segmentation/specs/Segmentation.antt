@@ -1,14 +1,14 @@
 -- 5.9.14: the segmentation parameters. Each table is the contract of the writer's function of its name.
 use mathlib.Core.List.{List, [], _∷_}
-use mathlib.Core.Bool.{Bool, true, false, cond}
-use Prim.Native.Nat.{ℕ, _+_, _%_, _^_}
+use mathlib.Core.Bool.{Bool, true, false}
+use Prim.Native.Nat.{ℕ, _+_, _%_}
 use lib.Dec.{eqb, ltb}
 use lib.ListN.{getD, replicate}
-use lib.IntN.{ℤ, pos, negℤ, natAbs}
+use lib.IntN.{ℤ, pos, negℤ}
 use Rattle.bits.specs.Codec.{Codec, flag, absent, inferredFlag, choose, via, array, _▷_}
 use Rattle.bits.specs.Codes.{su}
 use Rattle.bits.specs.Elements.{segmentation-update-map, segmentation-temporal-update, segmentation-update-data, feature-enabled, feature-data}
-use Rattle.parts.specs.Codes.{inferredSigned, natural, complement, clip, trimmed, zip, firsts, seconds}
+use Rattle.parts.specs.Codes.{inferredSigned, natural, clip, trimmed, zip, firsts, seconds}
 use Rattle.segmentation.specs.declared.SegmentationParams.{SegmentationParams}
 use Rattle.segmentation.specs.declared.SegmentationContext.{SegmentationContext}
 
@@ -28,10 +28,6 @@ unsigned-value bits limit i = trimmed (clip (pos 0) limit) (natural bits feature
 
 unfoldable pub feature-value : ℕ → ℕ → Codec ℤ
 feature-value j i = choose (ltb j 5) (signed-value (feature-bits j) (feature-max j) i) (unsigned-value (feature-bits j) (feature-max j) i)
-
--- its bits as a number
-unfoldable pub value-code : ℕ → ℤ → ℕ
-value-code j v = cond (ltb j 5) (complement (2 ^ feature-bits j) (clip (negℤ (feature-max j)) (feature-max j) v)) (natAbs (clip (pos 0) (feature-max j) v))
 
 -- place i is feature i % 8 of segment i / 8
 unfoldable pub feature : ℕ → Codec (Bool × ℤ)

@@ -11,11 +11,11 @@ use parts::inferred::inferred_flag;
 use parts::place::lend;
 use parts::place::settle;
 use parts::place::start;
-use parts::signed::complement;
 use writer::demand;
 use writer::f;
 use writer::flag;
 use writer::su16;
+use writer::su16_code;
 ghost use mathlib.Core.Path.{_≡_};
 ghost use Prim.Native.Nat.{_<_, _≤_, _^_};
 ghost use lib.IntN.{pos};
@@ -24,7 +24,8 @@ ghost use Rattle.bits.specs.Walk.{Walked};
 ghost use Rattle.parts.specs.Written.{Writes};
 ghost use Rattle.bits.specs.Elements.{feature-data};
 ghost use Rattle.parts.specs.Codes.{clip, inferredSigned};
-ghost use Rattle.segmentation.specs.Segmentation.{feature-bits, feature-max, signed-value, unsigned-value, feature-value, value-code, feature, features, features-out, no-flags, no-data, features-if, temporal-update, coded-updates, inferred-updates, updates-out, with-reference, without-reference, enabled-out, segmentation-params};
+ghost use Rattle.segmentation.specs.Packed.{value-code};
+ghost use Rattle.segmentation.specs.Segmentation.{feature-bits, feature-max, signed-value, unsigned-value, feature-value, feature, features, features-out, no-flags, no-data, features-if, temporal-update, coded-updates, inferred-updates, updates-out, with-reference, without-reference, enabled-out, segmentation-params};
 
 // Eight features of eight segments, segment by segment.
 pub struct SegmentationParams {
@@ -123,14 +124,14 @@ fn pow2(n: u32) -> u32
     1u32 << n
 }
 
-// The bits of a feature's value as a number; half is 2 to the power of its bits.
-fn value_code(j: usize, half: u32, v: i16) -> u32
-    requires { ⌜ (j < 8) × ((half ≡ 2 ^ feature-bits j) × (half ≤ 32768)) ⌝ }
+// The bits of a feature's value as a number.
+fn value_code(j: usize, bits: u32, v: i16) -> u32
+    requires { ⌜ (j < 8) × (bits ≡ feature-bits j) × (bits ≤ 8) ⌝ }
     ensures { λ r. ⌜ r ≡ value-code j v ⌝ }
 {
     let limit = feature_max(j);
     if j < 5 {
-        return complement(clip3(-limit, limit, v), half as u16);
+        return su16_code(clip3(-limit, limit, v), bits + 1);
     }
     clip3(0, limit, v) as u32
 }
@@ -144,7 +145,7 @@ fn feature(out: &mut [u8], c: Cursor, enabled: bool, v: i16, i: usize) -> Step
         let j = i % 8;
         let bits = feature_bits(j);
         let half = pow2(bits);
-        let code = value_code(j, half, v);
+        let code = value_code(j, bits, v);
         if j < 5 {
             if code < half * 2 {
                 return f(out, c, bits + 2, half * 2 + code, FEATURE_DATA, i as u8);

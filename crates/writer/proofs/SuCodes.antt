@@ -73,3 +73,6 @@ module _ (w v : Width) (t : T (leb (hbits w) (hbits v))) (z : ℤ) (h : SFits w 
 
   pub su-wide : (n e i : ℕ) {c : Cursor} {xs ys : List ℕ} {s : Step} → Walked (su n e i .enc (toZ v (ofZ v (toZ w (ofZ w z))))) c xs s ys → Walked (su n e i .enc z) c xs s ys
   su-wide n e i g = rw (widened w z h v t) at g
+
+  pub code-wide : (n m k : ℕ) → m ≡ min n 32 → k ≡ su-out m (toZ v (ofZ v (toZ w (ofZ w z)))) → k ≡ su-out (min n 32) z
+  code-wide n m k p q = rw (← p) (rw (widened w z h v t) at q)

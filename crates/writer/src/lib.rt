@@ -17,7 +17,7 @@ ghost use lib.Dec.{ltb};
 ghost use Prim.Native.Nat.{min, _^_};
 ghost use Rattle.bits.specs.declared.answer.Refusal.the-variants.{Inconsistent};
 ghost use Rattle.bits.specs.Walk.{Walked, field, mark, demand, forward};
-ghost use Rattle.bits.specs.Codes.{unary, uvlc, su, leb128};
+ghost use Rattle.bits.specs.Codes.{unary, uvlc, su, su-out, leb128};
 
 // The place n bits further on.
 fn forward(at: usize, n: u32) -> usize
@@ -131,4 +131,11 @@ pub fn su8(out: &mut [u8], c: Cursor, n: u32, value: i8, element: u8, index: u8)
     ensures { λ r. ⌜ Walked (su (min n 32) element index .enc value) c (now (out .entry)) r (now (out .exit)) ⌝ }
 {
     su16(out, c, n, value as i16, element, index)
+}
+
+// The code of su(n) of a 16-bit number, or 2^n where it is out of range.
+pub fn su16_code(value: i16, n: u32) -> u32
+    ensures { λ r. ⌜ r ≡ su-out (min n 32) value ⌝ }
+{
+    su_code(value as i32, smaller(n, 32))
 }

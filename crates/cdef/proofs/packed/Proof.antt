@@ -2,7 +2,7 @@ use mathlib.Core.Path.{_≡_}
 use Prim.Native.Nat.{ℕ, _+_, _*_, _≤_, _<_}
 use borrow.Author.Needs.{needs}
 use borrow.Author.Tests.{lt-ltb, le-ltb, eq-eqb, ne-eqb}
-use Rattle.cdef.specs.Cdef.{packed}
+use Rattle.cdef.specs.Packed.{packed}
 use Rattle.cdef.proofs.packed.Statement.{statement}
 use Rattle.cdef.proofs.packed.Tie as tie
 

@@ -1,5 +1,5 @@
 use borrow.Author.Needs.{needs}
-use Rattle.segmentation.proofs.Steps.{half-is, packed-signed, packed-unsigned, apart}
+use Rattle.segmentation.proofs.Steps.{packed-signed, packed-unsigned, apart}
 use Rattle.segmentation.proofs.feature.Statement.{statement}
 use Rattle.segmentation.proofs.feature.Tie as tie
 
@@ -7,7 +7,7 @@ pub feature-spec : {M : Type 1} → statement M
 feature-spec =
     tie.close
     (tie.spec
-    (λ c κs. search needs) (λ c κs. search needs) (λ c κs. search (needs, half-is)) (λ c. search needs)
+    (λ c κs. search needs) (λ c κs. search needs) (λ c κs. search needs) (λ c. search needs)
     (λ c. search needs) (λ c. search needs) (λ c. search needs) (λ c. search needs) (λ c κs. search needs) (λ c. search needs) (λ c. search packed-signed)
     (λ c. search needs) (λ c. search needs) (λ c. search needs) (λ c κs. search needs) (λ c. search needs) (λ c. search packed-unsigned)
     (λ c κs. search needs) (λ c. search needs) (λ c. search apart))
