@@ -326,7 +326,7 @@ void friscurella_write_lr_params(const int32_t record[FRISCURELLA_LR_COUNT], uin
 /* Reads a sequence header OBU, which has to be the whole input.
    DONE, 0: the input is a spelling of a record that friscurella_write_sequence_header accepts, and `record` is that record: inferred fields
    hold the inferred value, and fields neither coded nor inferred are 0.
-   Anything else: the input is no such spelling, and all of `record` is 0. */
+   Anything else: the input is no such spelling, and no number of `record` has changed. */
 void friscurella_read_sequence_header(const uint8_t *input, size_t length, uint32_t record[FRISCURELLA_SEQ_COUNT],
                                       uint32_t answer[FRISCURELLA_ANSWER_COUNT]);
 

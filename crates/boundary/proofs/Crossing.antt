@@ -8,6 +8,7 @@ use lib.IntN.{ℤ}
 use Rattle.bits.specs.Walk.{Walk}
 use Rattle.bits.specs.Codec.{Got, got, stop}
 use Rattle.bits.specs.declared.answer.Numbered.{Numbered}
+use Rattle.bits.specs.declared.answer.Refusal.{Refusal}
 use Rattle.obu.specs.declared.answer.Answer as O
 use Rattle.obu.specs.declared.header.ObuHeader.{ObuHeader}
 use Rattle.obu.specs.Delimiter.{temporal-delimiter}
@@ -37,7 +38,7 @@ use Rattle.sequence.proofs.Answering.{same-answer}
 use Rattle.sequence_reader.specs.declared.read.Part.{Part}
 use Rattle.sequence_reader.specs.declared.read.SequenceAnswer.{SequenceAnswer}
 use Rattle.sequence_reader.specs.declared.read.Outcome.{Outcome}
-use Rattle.sequence_reader.specs.declared.read.Outcome.the-variants.{Done}
+use Rattle.sequence_reader.specs.declared.read.Outcome.the-variants.{Done, Refused}
 use Rattle.sequence_reader.specs.Reader.{answerFor, Answers}
 use Rattle.sequence_reader.specs.Payload.{payloadPart}
 use Rattle.sequence_reader.proofs.PayloadParts.{few}
@@ -95,12 +96,27 @@ unfolding answerFor
 unread xs (got h rest) e = reader-sets xs {r = answerFor (got h rest)} (ap answerFor (sym e)) refl .points .beyond
 unread xs (stop r) e = λ i l. all-zeros 32 i
 
-pub zeros-beyond : (xs : List ℕ) {a : SequenceAnswer} → Answers xs a → ZerosBeyond (a .«record»)
-zeros-beyond xs e = rw e (unread xs (read sequence-header xs) refl)
+-- the reader's answer; the record's array is stored into only where it accepts
+module _ (xs : List ℕ) {a : SequenceAnswer} (e : Answers xs a) where
+  pub zeros-beyond : ZerosBeyond (a .«record»)
+  zeros-beyond = rw e (unread xs (read sequence-header xs) refl)
 
--- the reader's answer and its record
-pub read-crosses : {a v : SequenceAnswer} {l ns : List ℕ} {n : Numbered} → a ≡ v → ns ≡ numbers-of (a .«record») → n ≡ outcome-numbers (a .outcome) → l ≡ answer-of n → lent l ns ≡ was-read v
-read-crosses e k m h = rw (← e) (rw (h, m, k))
+  module _ (old : List ℕ) {l : List ℕ} {n : Numbered} (is : n ≡ outcome-numbers (a .outcome)) (told : l ≡ answer-of n) where
+    pub read-crosses : {ns : List ℕ} → a .outcome ≡ Done → ns ≡ numbers-of (a .«record») → lent l ns ≡ was-read (read sequence-header xs) old
+    unfolding answerFor
+    read-crosses d k = rw (told, is, k, e) (go (read sequence-header xs) (rw e at d))
+      where
+        go : (g : Got SequenceHeaderObu) → answerFor g .outcome ≡ Done → lent (answer-of (outcome-numbers (answerFor g .outcome))) (numbers-of (answerFor g .«record»)) ≡ was-read g old
+        go (got h rest) q = refl
+        go (stop r) q = absurd (let n : _≡_ {A = ℕ} 0 1 = cc in omega arith)
+
+    pub refusal-crosses : {z : Refusal} → a .outcome ≡ Refused z → lent l old ≡ was-read (read sequence-header xs) old
+    unfolding answerFor
+    refusal-crosses {z} d = rw (told, is, e) (go (read sequence-header xs) (rw e at d))
+      where
+        go : (g : Got SequenceHeaderObu) → answerFor g .outcome ≡ Refused z → lent (answer-of (outcome-numbers (answerFor g .outcome))) old ≡ was-read g old
+        go (got h rest) q = absurd (let n : _≡_ {A = ℕ} 0 1 = cc in omega arith)
+        go (stop r) q = refl
 
 -- the payload's part
 module _ (xs : List ℕ) {p : Part} (e : p ≡ payloadPart xs) where

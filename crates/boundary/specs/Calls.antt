@@ -2,14 +2,15 @@
 use mathlib.Core.List.{List, [], _∷_}
 use Prim.Native.Nat.{ℕ}
 use Rattle.bits.specs.Walk.{Walk}
+use Rattle.bits.specs.Codec.{Got, got, stop}
 use Rattle.bits.specs.Answers.{numbered, plain}
 use Rattle.bits.specs.declared.answer.Numbered.{Numbered}
 use Rattle.obu.specs.Writer as obu
 use Rattle.parts.specs.Written as part
+use Rattle.sequence.specs.declared.record.SequenceHeaderObu.{SequenceHeaderObu}
 use Rattle.sequence_reader.specs.declared.read.Part.{Part}
 use Rattle.sequence_reader.specs.declared.read.Outcome.{Outcome}
 use Rattle.sequence_reader.specs.declared.read.Outcome.the-variants.{Done, Refused}
-use Rattle.sequence_reader.specs.declared.read.SequenceAnswer.{SequenceAnswer}
 use Rattle.boundary.specs.Sequence.{numbers-of}
 
 -- an answer: its number and its two values
@@ -31,13 +32,15 @@ wrote-obu w xs = lent (answer-of (obu.answerNumbers (obu.written w xs .answer)))
 abbrev pub wrote-part : Walk → ℕ → List ℕ → Lent
 wrote-part w place xs = lent (answer-of (part.answered (part.written w place xs .answer))) (part.written w place xs .bytes)
 
--- the reader: number 0 where it accepts; where it refuses, the record is that of zeros
+-- the reader, with a record's array that holds xs: number 0 and the record's numbers where it accepts; where it refuses, the array is as it was
+abbrev pub was-read : Got SequenceHeaderObu → List ℕ → Lent
+was-read (got h rest) xs = lent (answer-of (plain 0)) (numbers-of h)
+was-read (stop r) xs = lent (answer-of (numbered r)) xs
+
+-- what the outcome of the reader in Rattle tells, for an inner contract
 abbrev pub outcome-numbers : Outcome → Numbered
 outcome-numbers Done = plain 0
 outcome-numbers (Refused r) = numbered r
-
-abbrev pub was-read : SequenceAnswer → Lent
-was-read a = lent (answer-of (outcome-numbers (a .outcome))) (numbers-of (a .«record»))
 
 -- the first byte of a part, and how many it has
 abbrev pub part-numbers : Part → List ℕ

@@ -30,7 +30,6 @@ ghost use mathlib.Core.Path.{_≡_};
 ghost use Rattle.obu.specs.Delimiter.{temporal-delimiter, IsDelimiter, Tells};
 ghost use Rattle.obu.specs.Demand3.{read};
 ghost use Rattle.sequence.specs.Sequence.{sequence-header};
-ghost use Rattle.sequence_reader.specs.Reader.{answerFor};
 ghost use Rattle.sequence_reader.specs.Payload.{payloadPart};
 ghost use Rattle.boundary.specs.Sequence.{header-of, record-of};
 ghost use Rattle.boundary.specs.Parts.{quantization-walk, segmentation-walk, loop-filter-walk, cdef-walk, lr-walk};
@@ -157,20 +156,23 @@ pub extern "C" fn friscurella_write_lr_params(
     *answer = answer_of(numbers(a));
 }
 
-// The record is that of zeros where the input is refused.
+// Where the input is refused, the record is as it was.
 #[no_mangle]
 pub extern "C" fn friscurella_read_sequence_header(
     input: &[u8],
     record: &mut [u32; 347],
     answer: &mut [u32; 3],
 )
-    ensures { λ _. ⌜ lent (now (answer .exit)) (now («record» .exit)) ≡ was-read (answerFor (read sequence-header (now (input .entry)))) ⌝ }
+    ensures { λ _. ⌜ lent (now (answer .exit)) (now («record» .exit)) ≡ was-read (read sequence-header (now (input .entry))) (now («record» .entry)) ⌝ }
 {
     let a = read_sequence_header(input);
     let o = a.outcome;
+    *answer = answer_of(outcome_numbers(o));
+    let Outcome::Done = o else {
+        return;
+    };
     let h = a.record;
     sequence_numbers(record, h);
-    *answer = answer_of(outcome_numbers(o));
 }
 
 // The payload's first byte and its length.
