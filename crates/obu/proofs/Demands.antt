@@ -1,4 +1,4 @@
--- Demand 3, for an OBU around any payload whose table keeps the laws.
+-- Demand 3, for an OBU around any payload whose table keeps the laws, and that is written in at most 65,525 bytes: what stands around it has at most 11.
 use mathlib.Core.Path.{_≡_, refl, sym, _∙_, ap}
 use mathlib.Core.List.{List, [], _++_}
 use mathlib.Core.Bool.{Bool, true, false, cond}
@@ -21,7 +21,8 @@ use Rattle.obu.specs.Writer.{wholeBytes, written}
 use Rattle.obu.specs.Demand3.{AreBytes, read, Consistent, Spells, Gives, Shortest, Demand3}
 use Rattle.obu.proofs.Bytes.{pack, pack-length, pack-bytes, bitsOf-pack, bitsOf-same, put-bytes}
 use Rattle.obu.proofs.Spellings.{accepted, spelled, own, shortest, aligned}
-use Rattle.obu.proofs.Writing.{fits}
+use Rattle.obu.proofs.Writing.{fits, wrote-all, Few}
+use Rattle.obu.proofs.Framing.{obu-few}
 
 -- a slice that is read is not too long
 short-enough : {A : Type 0} (xs : List ℕ) (g : Got A) (a : A) (rest : Bits) → cond (ltb 65536 (length xs)) (stop Long) g ≡ got a rest → (length xs ≤ 65536) × (g ≡ got a rest)
@@ -43,20 +44,24 @@ saves : (es bs : Bits) (m n : ℕ) → length es ≡ m * 8 → length bs ≡ n *
 saves es bs m n l k (same e) = (omega (arith, ap length e), λ _. e)
 saves es bs m n l k (shorter h) = (omega arith, λ e. absurd (omega arith))
 
-module _ (t : ℕ) {A : Type 0} (p : Codec A) (P : Lawful strict p) where
+module _ (t : ℕ) {A : Type 0} (p : Codec A) (P : Lawful strict p) (F : (v : A) → Few 524200 (p .enc v)) where
   is-accepted : (r : ObuHeader × A) (xs : List ℕ) → Spells (obu t p) r xs → read (obu t p) xs ≡ got (obu t p .coded r) []
   unfolding read obu
   is-accepted r xs s = let l = s .few in rw (le-ltb 65536 (length xs) l) (accepted t p P (r .0) (r .1) (bitsOf xs) (s .spelling))
 
-  is-written : (r : ObuHeader × A) (xs : List ℕ) → Spells (obu t p) r xs → (es : List ℕ) × (run (obu t p .enc r) ≡ wrote (bitsOf es)) × Shortest (obu t p) r es
+  is-consistent : (r : ObuHeader × A) (xs : List ℕ) → Spells (obu t p) r xs → Consistent (obu t p) r
   unfolding obu
-  is-written r xs s =
-      let u = shortest t p P (r .0) (r .1) (bitsOf xs) (s .spelling) in
-      let w = own t p P (r .0) (r .1) (u .0) (u .1) in
-      let m = aligned t p P (r .0) (r .1) (u .0) w in
-      make (u .0) (m .0) (m .1) (u .1) w
+  is-consistent r xs s = ap (λ (o : Out). o .end) (shortest t p P (r .0) (r .1) (bitsOf xs) (s .spelling) .1)
+
+  is-written : (r : ObuHeader × A) → Consistent (obu t p) r → (es : List ℕ) × Shortest (obu t p) r es × Gives (obu t p) r es
+  unfolding obu
+  is-written r c =
+      let e = wrote-all (run (obu t p .enc r)) c in
+      let w = own t p P (r .0) (r .1) _ e in
+      let m = aligned t p P (r .0) (r .1) _ w in
+      make _ (m .0) (m .1) e w
     where
-      make : (bs : Bits) (m : ℕ) → length bs ≡ m * 8 → run (obu t p .enc r) ≡ wrote bs → Spelling t p (r .0) (r .1) bs → (es : List ℕ) × (run (obu t p .enc r) ≡ wrote (bitsOf es)) × Shortest (obu t p) r es
+      make : (bs : Bits) (m : ℕ) → length bs ≡ m * 8 → run (obu t p .enc r) ≡ wrote bs → Spelling t p (r .0) (r .1) bs → (es : List ℕ) × Shortest (obu t p) r es × Gives (obu t p) r es
       make bs m l e w =
           let b = bitsOf-pack m bs l in
           let k = pack-length m bs in
@@ -65,33 +70,28 @@ module _ (t : ℕ) {A : Type 0} (p : Codec A) (P : Lawful strict p) where
           let u = shortest t p P (r .0) (r .1) (bitsOf ys) (q .spelling) in
           let v : bs ≡ u .0 = ap (λ (o : Out). o .bits) (sym e ∙ u .1) in
           rw v (saves (u .0) (bitsOf ys) m (length ys) (rw v at l) (length-bitsOf ys) (u .2)) in
-          let f : m ≤ 65536 = omega (arith, s .few, other xs s .0) in (
+          let f : m ≤ 65536 = omega (arith, obu-few t p (r .0) (r .1) (F (r .1)) .most bs e) in (
             pack m bs,
-            rw b e,
             record {
               spells = record { bytes = B; few = rw k f; spelling = rw b w };
               least = λ ys q. rw k (other ys q .0);
               only = λ ys q n. bitsOf-same ys (pack m bs) (q .bytes) B (sym (other ys q .1 (n ∙ k)) ∙ sym b);
             },
+            λ buffer X h n. gives (obu t p .enc r) (pack m bs) buffer (rw b e) B X h n,
           )
-
-  again : (r : ObuHeader × A) (xs : List ℕ) → Spells (obu t p) r xs → (es : List ℕ) × Shortest (obu t p) r es × Gives (obu t p) r es
-  again r xs s = let w = is-written r xs s in (w .0, w .2, λ buffer B h l. gives (obu t p .enc r) (w .0) buffer (w .1) (w .2 .spells .bytes) B h l)
-
-  consistent : (r : ObuHeader × A) (xs : List ℕ) → Spells (obu t p) r xs → Consistent (obu t p) r
-  consistent r xs s = ap (λ (o : Out). o .end) (is-written r xs s .1)
 
   is-spelled : (xs : List ℕ) → AreBytes xs → (r : ObuHeader × A) (rest : Bits) → read (obu t p) xs ≡ got r rest → Consistent (obu t p) r × Spells (obu t p) r xs × (obu t p .coded r ≡ r)
   unfolding read obu
   is-spelled xs X r rest d =
       let w = short-enough xs (obu t p .dec (bitsOf xs)) r rest d in
       let s : Spells (obu t p) r xs = record { bytes = X; few = w .0; spelling = spelled t p P (bitsOf xs) (length xs) (r .0) (r .1) rest (length-bitsOf xs) (w .1) } in
-      (consistent r xs s, s, got-value (sym (is-accepted r xs s) ∙ d))
+      (is-consistent r xs s, s, got-value (sym (is-accepted r xs s) ∙ d))
 
   pub demand3 : Demand3 (obu t p)
   demand3 = record {
     accepted-is-spelled = is-spelled;
     spelled-is-accepted = is-accepted;
     fields-are-fixed = λ a b xs s q. got-value (sym (is-accepted a xs s) ∙ is-accepted b xs q);
-    written-again = again;
+    spelled-is-consistent = is-consistent;
+    consistent-is-written = is-written;
   }

@@ -52,5 +52,7 @@ module _ {A : Type 0} (c : Codec A) where
     pub spelled-is-accepted : (a : A) (xs : List ℕ) → Spells a xs → read xs ≡ got (c .coded a) []
     -- The bytes fix every coded field.
     pub fields-are-fixed : (a b : A) (xs : List ℕ) → Spells a xs → Spells b xs → c .coded a ≡ c .coded b
-    -- Written again with room enough, a record that has a spelling gives its one shortest.
-    pub written-again : (a : A) (xs : List ℕ) → Spells a xs → (es : List ℕ) × Shortest a es × Gives a es
+    -- Spelled exactly when consistent: a record that has a spelling is consistent, ..
+    pub spelled-is-consistent : (a : A) (xs : List ℕ) → Spells a xs → Consistent a
+    -- .. and a consistent record has one shortest spelling. Written with room enough, and so written again, it gives that.
+    pub consistent-is-written : (a : A) → Consistent a → (es : List ℕ) × Shortest a es × Gives a es

@@ -19,7 +19,7 @@ use Rattle.bits.specs.declared.answer.Refusal.the-variants.{Long}
 use Rattle.bits.specs.declared.answer.Step.{Step}
 use Rattle.bits.specs.declared.answer.Step.the-variants.{Next, Refused as Halted}
 use Rattle.bits.proofs.Laws.{wrote-bits, refused-done, join-inv, joined}
-use Rattle.bits.proofs.Walking.{answer, bytes, kept, bounded, hop, halt}
+use Rattle.bits.proofs.Walking.{answer, bytes, kept, hop, halt}
 use Rattle.obu.specs.declared.answer.Answer.{Answer}
 use Rattle.obu.specs.declared.answer.Answer.the-variants.{Done, Refused}
 use Rattle.obu.specs.declared.header.ObuHeader.{ObuHeader}
@@ -32,9 +32,9 @@ use Rattle.obu.specs.Writer.{stored, written, Writes, writes, verdict}
 use Rattle.obu.proofs.Bytes.{pack, pack-length, pack-bytes, bitsOf-pack, take-put-bytes}
 use Rattle.obu.proofs.Headers.{header-law, header-length}
 use Rattle.obu.proofs.Frames.{tail, sizeOut, tail-run, framed-run, size-own, size-length, frame-length}
-use Rattle.obu.proofs.Framing.{size-total, head-few, size-few}
+use Rattle.obu.proofs.Framing.{size-total, head-few, size-few, padded-few}
 use Rattle.obu.proofs.Strings.{octets-run, writes-as, string-room, string-ended, string-filled}
-use Rattle.obu.proofs.Writing.{Few, few-by, origin, counts}
+use Rattle.obu.proofs.Writing.{Few, few-by, wrote-all, origin, counts}
 
 -- Strings of bytes, one behind the other
 bitsOf-append : (xs ys : List ℕ) → bitsOf (xs ++ ys) ≡ bitsOf xs ++ bitsOf ys
@@ -64,7 +64,7 @@ string n m bs h l k =
 passed : {n : ℕ} {w : Walk} {xs ys : List ℕ} {s : Step} {d : Cursor} → Few n w → n ≤ 2000000 → Walked w origin xs s ys → s ≡ Next d → (run w ≡ wrote (run w .bits)) × (d .at ≡ length (run w .bits)) × (d .at ≤ n)
 passed {w = w} F l p q =
     let c = counts F l (walked (answer p) refl) q in
-    ((λ i. record { bits = run w .bits; end = c .0 i }), c .1, c .2)
+    (wrote-all (run w) (c .0), c .1, c .2)
 
 -- The header and the size: at most ten bytes, all whole
 sized-few : (t : ℕ) (h : ObuHeader) (sized : Bool) (n : ℕ) → Few 80 (obu-header t .enc h ⊕ obu-size sized n)
@@ -84,14 +84,6 @@ sized-inv t h sized n bs e =
 -- The payload and its trailing bits
 abbrev pub padded : Walk → Walk
 padded w = w ⊕ trailing-bits (bitCount w)
-
-padded-few : {n : ℕ} {w : Walk} → Few n w → Few (n + 8) (padded w)
-unfolding run trailing-bits bound
-padded-few {n} {w} F = record {
-  most = λ bs e.
-      let j = join-inv (run w) (run (trailing-bits (bitCount w))) bs e in
-      omega (arith, F .most (j .0) (j .2), bounded (trailing-bits (bitCount w)), ap (λ (o : Out). length (o .bits)) (j .3), ap length (sym (j .4)) ∙ length-append (j .0) (j .1));
-}
 
 padded-inv : (w : Walk) (bs : Bits) → run (padded w) ≡ wrote bs → (x : Bits) × (run w ≡ wrote x) × (x ++ tail (length x) ≡ bs)
 unfolding run

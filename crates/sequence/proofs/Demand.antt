@@ -3,6 +3,7 @@ use mathlib.Core.Path.{_≡_, refl, sym, ap, _∙_}
 use mathlib.Core.List.{List}
 use mathlib.Core.Bool.{Bool, true, false, cond}
 use Prim.Native.Nat.{ℕ}
+use native.Mathlib.Omega.{arith}
 use lib.ListN.{length}
 use lib.Dec.{ltb}
 use Rattle.bits.specs.Bits.{Bits, bitsOf}
@@ -15,6 +16,7 @@ use Rattle.obu.proofs.Demands.{demand3}
 use Rattle.sequence.specs.Fields.{record-out, record-in}
 use Rattle.sequence.specs.Sequence.{sequence-header-obu, sequence-header}
 use Rattle.sequence.proofs.Laws.{sequence-header-obu-law}
+use Rattle.sequence.proofs.Counts.{few}
 
 -- a table for a struct has it as the tuple's table does
 module _ {A B : Type 0} (to : B → A) (from : A → B) (c : Codec A) (back : (a : A) → to (from a) ≡ a) (D : Demand3 c) where
@@ -42,10 +44,10 @@ module _ {A B : Type 0} (to : B → A) (from : A → B) (c : Codec A) (back : (a
       let g = D .accepted-is-spelled xs X (to b) (u .1) (u .2 ∙ ap (λ (a : A). got a (u .1)) is) in
       (g .0, struct b xs (g .1), ap from (g .2) ∙ ap from (sym is) ∙ got-value (u .3))
 
-  again : (b : B) (xs : List ℕ) → Spells (via to from c) b xs → (es : List ℕ) × Shortest (via to from c) b es × Gives (via to from c) b es
+  is-written : (b : B) → Consistent (via to from c) b → (es : List ℕ) × Shortest (via to from c) b es × Gives (via to from c) b es
   unfolding via
-  again b xs s =
-      let g = D .written-again (to b) xs (tuple b xs s) in
+  is-written b k =
+      let g = D .consistent-is-written (to b) k in
       (g .0, record { spells = struct b (g .0) (g .1 .spells); least = λ ys q. g .1 .least ys (tuple b ys q); only = λ ys q. g .1 .only ys (tuple b ys q) }, g .2)
 
   demand3-struct : Demand3 (via to from c)
@@ -54,9 +56,12 @@ module _ {A B : Type 0} (to : B → A) (from : A → B) (c : Codec A) (back : (a
     accepted-is-spelled = spelled;
     spelled-is-accepted = λ b xs s. struct-read xs ∙ rw (D .spelled-is-accepted (to b) xs (tuple b xs s));
     fields-are-fixed = λ a b xs s q. ap from (D .fields-are-fixed (to a) (to b) xs (tuple a xs s) (tuple b xs q));
-    written-again = again;
+    spelled-is-consistent = λ b xs s. D .spelled-is-consistent (to b) xs (tuple b xs s);
+    consistent-is-written = is-written;
   }
 
 pub sequence-demand3 : Demand3 sequence-header
 unfolding sequence-header
-sequence-demand3 = demand3-struct record-out record-in (obu 1 sequence-header-obu) (λ a. refl) (demand3 1 sequence-header-obu sequence-header-obu-law)
+sequence-demand3 =
+    demand3-struct record-out record-in (obu 1 sequence-header-obu) (λ a. refl)
+    (demand3 1 sequence-header-obu sequence-header-obu-law (λ v. record { most = λ bs e. omega (arith, few v .most bs e) }))

@@ -5,11 +5,14 @@ use Prim.Native.Nat.{ℕ, _≤_}
 use native.Mathlib.Omega.{arith}
 use lib.ListN.{length, drop}
 use Rattle.bits.specs.Bits.{Bits}
+use Rattle.bits.specs.Walk.{Walk, refused, run}
 use Rattle.bits.specs.Codec.{Got, got, stop}
+use Rattle.bits.specs.declared.answer.Refusal.{Refusal}
 use Rattle.obu.specs.declared.answer.Answer.{Answer}
 use Rattle.obu.specs.declared.answer.Answer.the-variants as W
 use Rattle.obu.specs.Writer.{Written, written, Writes, writes}
 use Rattle.obu.specs.Demand3.{AreBytes, read, Consistent, Spells, Shortest}
+use Rattle.obu.proofs.Writing.{refusing}
 use Rattle.sequence.specs.declared.record.SequenceHeaderObu.{SequenceHeaderObu}
 use Rattle.sequence.specs.Sequence.{sequence-header}
 use Rattle.sequence.proofs.Demand.{sequence-demand3}
@@ -44,13 +47,29 @@ spelled-is-accepted h xs s a = a ∙ rw (sequence-demand3 .spelled-is-accepted h
 pub fields-are-fixed : (h k : SequenceHeaderObu) (xs : List ℕ) → Spells sequence-header h xs → Spells sequence-header k xs → sequence-header .coded h ≡ sequence-header .coded k
 fields-are-fixed = sequence-demand3 .fields-are-fixed
 
--- Written again with room enough, a record that has a spelling gives its one shortest, and every byte beyond is kept.
-pub written-again : (h : SequenceHeaderObu) (xs : List ℕ) → Spells sequence-header h xs
-    → (es : List ℕ) × Shortest sequence-header h es × ((buffer : List ℕ) → AreBytes buffer → length es ≤ length buffer → length buffer ≤ 65536
-    → (w : Answer) (ys : List ℕ) → Writes (sequence-header .enc h) buffer w ys → (w ≡ W.Done (length es)) × (ys ≡ es ++ drop (length es) buffer))
-written-again h xs s =
-    let g = sequence-demand3 .written-again h xs s in
-    (g .0, g .1, λ buffer B l m w ys. as-given (g .0) buffer (g .2 buffer B l m))
-  where
-    as-given : (es buffer : List ℕ) → written (sequence-header .enc h) buffer ≡ record { answer = W.Done (length es); bytes = es ++ drop (length es) buffer } → {w : Answer} {ys : List ℕ} → Writes (sequence-header .enc h) buffer w ys → (w ≡ W.Done (length es)) × (ys ≡ es ++ drop (length es) buffer)
-    as-given es buffer e (writes p q) = (p ∙ ap (λ (x : Written). x .answer) e, q ∙ ap (λ (x : Written). x .bytes) e)
+-- what the writer answers and leaves, where it is known what is written
+as-written : {w : Walk} {xs : List ℕ} {o : Written} → written w xs ≡ o → {a : Answer} {ys : List ℕ} → Writes w xs a ys → (a ≡ o .answer) × (ys ≡ o .bytes)
+as-written e (writes p q) = (p ∙ ap (λ (x : Written). x .answer) e, q ∙ ap (λ (x : Written). x .bytes) e)
+
+-- The bytes es are the record's one shortest spelling. Written with room enough, the record gives es, and every byte beyond is kept. Read, es gives
+-- the record's coded fields.
+pub record WrittenAs (h : SequenceHeaderObu) (es : List ℕ) : Type 0 where
+  pub shortest : Shortest sequence-header h es
+  pub given : (buffer : List ℕ) → AreBytes buffer → length es ≤ length buffer → length buffer ≤ 65536 → {w : Answer} {ys : List ℕ} → Writes (sequence-header .enc h) buffer w ys
+      → (w ≡ W.Done (length es)) × (ys ≡ es ++ drop (length es) buffer)
+  pub read-back : {r : SequenceAnswer} → Answers es r → r ≡ record { outcome = Done; «record» = sequence-header .coded h }
+
+-- Every consistent record is written so.
+pub consistent-is-written : (h : SequenceHeaderObu) → Consistent sequence-header h → (es : List ℕ) × WrittenAs h es
+consistent-is-written h c =
+    let g = sequence-demand3 .consistent-is-written h c in
+    (g .0, record { shortest = g .1; given = λ buffer B l m p. as-written (g .2 buffer B l m) p; read-back = λ a. spelled-is-accepted h (g .0) (g .1 .spells) a })
+
+-- Written again, so is every record that has a spelling, since it is consistent.
+pub written-again : (h : SequenceHeaderObu) (xs : List ℕ) → Spells sequence-header h xs → (es : List ℕ) × WrittenAs h es
+written-again h xs s = consistent-is-written h (sequence-demand3 .spelled-is-consistent h xs s)
+
+-- A record that is not consistent is refused by its walk's refusal, and no byte changes.
+pub inconsistent-is-refused : (h : SequenceHeaderObu) (why : Refusal) → run (sequence-header .enc h) .end ≡ refused why → (buffer : List ℕ) → length buffer ≤ 65536
+    → {w : Answer} {ys : List ℕ} → Writes (sequence-header .enc h) buffer w ys → (w ≡ W.Refused why) × (ys ≡ buffer)
+inconsistent-is-refused h why e buffer l p = as-written (refusing (sequence-header .enc h) buffer why l e) p
