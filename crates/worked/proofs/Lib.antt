@@ -1,5 +1,2 @@
-pub mod Delimiter
-pub mod Sequence
-pub mod Reading
-pub mod Codes
-pub mod Parts
+pub mod Records
+pub mod Worked
