@@ -1,6 +1,8 @@
 -- Which part of the input the payload call hands back.
+use mathlib.Core.Path.{_≡_}
 use mathlib.Core.List.{List, []}
-use Prim.Native.Nat.{ℕ, _-_, _/_}
+use Prim.Native.Nat.{ℕ, _+_, _-_, _/_}
+use denote.Ref.{RefT, now}
 use lib.ListN.{length, take, drop}
 use Rattle.bits.specs.Bits.{Bits, from}
 use Rattle.bits.specs.Codec.{Got, got, stop, andThen}
@@ -28,3 +30,8 @@ payloadPart xs = partFor (read sequence-header xs) xs
 
 abbrev pub part : Part → List ℕ → List ℕ
 part p xs = take (p .size) (drop (p .place) xs)
+
+-- The contract of `payload`: the slice r that it hands back is that part of the slice s itself, in its bytes and in its place. It points into the block
+-- that s points into, as many bytes behind the start of s as the part's place says. (A data type and no record, so that a proof search takes it whole.)
+pub data Hands (s r : RefT (List ℕ)) : Type 0 where
+  hands : now r ≡ part (payloadPart (now s)) (now s) → r .ptr ≡ (s .ptr .0, payloadPart (now s) .place + s .ptr .1) → Hands s r

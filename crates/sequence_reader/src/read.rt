@@ -13,7 +13,7 @@ use reader::rest;
 use sequence::record::SequenceHeaderObu;
 ghost use mathlib.Core.Path.{_≡_};
 ghost use Rattle.sequence_reader.specs.Reader.{Answers};
-ghost use Rattle.sequence_reader.specs.Payload.{behind, payloadPart, part};
+ghost use Rattle.sequence_reader.specs.Payload.{behind, payloadPart, Hands};
 
 pub enum Outcome {
     // The record was read.
@@ -85,10 +85,13 @@ pub fn payload_part(input: &[u8]) -> Part
 
 // The payload, as a part of `input`.
 pub fn payload(input: &[u8]) -> &[u8]
-    ensures { λ r. ⌜ now r ≡ part (payloadPart (now (input .entry))) (now (input .entry)) ⌝ }
+    ensures { λ r. ⌜ Hands (input .entry) r ⌝ }
 {
-    let p = payload_part(input);
-    let at = p.place;
-    let end = at + p.size;
-    &input[at..end]
+    let a = read_sequence_header(input);
+    let o = a.outcome;
+    let Outcome::Done = o else {
+        return &input[0..0];
+    };
+    let at = behind(input);
+    &input[at..]
 }

@@ -1,5 +1,5 @@
 use borrow.Author.Needs.{needs}
-use Rattle.sequence_reader.proofs.PayloadParts.{part-ends, part-fits, part-is}
+use Rattle.sequence_reader.proofs.PayloadParts.{behind-inside, handed-none, handed-rest}
 use Rattle.sequence_reader.proofs.read.payload.Statement.{statement}
 use Rattle.sequence_reader.proofs.read.payload.Tie as tie
 
@@ -7,4 +7,5 @@ pub payload-spec : {M : Type 1} → statement M
 payload-spec =
     tie.close
     (tie.spec
-    (λ c κs. search needs) (λ c. search part-fits) (λ c. search needs) (λ c. search needs) (λ c. search part-ends) (λ c. search part-is))
+    (λ c κs. search needs) (λ c. search needs) (λ c. search needs) (λ c. search needs) (λ c. search needs) (λ c. search needs) (λ c. search handed-none)
+    (λ c κs. search needs) (λ c. search behind-inside) (λ c. search behind-inside) (λ c. search needs) (λ c. search handed-rest))
