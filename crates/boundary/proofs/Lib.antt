@@ -1,5 +1,10 @@
 pub mod Narrowing
-pub mod Clamping
+pub mod Alike
+pub mod Near
+pub mod GivenQuantization
+pub mod GivenSegmentation
+pub mod GivenLoopFilter
+pub mod GivenSequence
 pub mod Filling
 pub mod Records
 pub mod Numbering

@@ -1,4 +1,5 @@
 pub mod Numbers
+pub mod Held
 pub mod Sequence
 pub mod Parts
 pub mod Calls
