@@ -1,8 +1,8 @@
 /* Friscurella: AV1 headers written and read. Link with libboundary.a (x86-64).
 
    A record crosses as an array of numbers, with a named place for each field below. A flag is set by any number but 0. A field that is neither
-   coded nor checked never affects an answer. Some fields are narrower than the numbers: a number beyond them counts as the nearest
-   that they hold, and a number below 0 in an unsigned field counts as 2^32 - 1.
+   coded nor checked never affects an answer. Each number counts as it is given, also where its field cannot hold
+   it; but a number below 0 in an unsigned field counts as 2^32 - 1.
 
    Every call fills its whole answer, keeps nothing, allocates nothing and writes no other memory than is said here, so that calls
    may run at the same time on different memory. No pointer may be NULL, and what a call writes may not overlap its other arguments. */

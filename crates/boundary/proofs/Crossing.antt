@@ -5,7 +5,7 @@ use Prim.Native.Nat.{ℕ, zero, suc, _<_, _^_}
 use native.Mathlib.Omega.{arith}
 use lib.ListN.{getD, replicate}
 use lib.IntN.{ℤ}
-use Rattle.bits.specs.Walk.{Walk}
+use Rattle.bits.specs.Walk.{Walk, run}
 use Rattle.bits.specs.Codec.{Got, got, stop}
 use Rattle.bits.specs.declared.answer.Numbered.{Numbered}
 use Rattle.bits.specs.declared.answer.Refusal.{Refusal}
@@ -34,7 +34,6 @@ use Rattle.restoration.specs.Restoration as restoration
 use Rattle.sequence.specs.declared.record.SequenceHeaderObu.{SequenceHeaderObu}
 use Rattle.sequence.specs.Points.{no-point}
 use Rattle.sequence.specs.Sequence.{sequence-header}
-use Rattle.sequence.proofs.Answering.{same-answer}
 use Rattle.sequence_reader.specs.declared.read.Part.{Part}
 use Rattle.sequence_reader.specs.declared.read.SequenceAnswer.{SequenceAnswer}
 use Rattle.sequence_reader.specs.declared.read.Outcome.{Outcome}
@@ -45,45 +44,51 @@ use Rattle.sequence_reader.proofs.PayloadParts.{few}
 use Rattle.sequence_reader.proofs.Setting.{reader-sets}
 use Rattle.boundary.specs.Sequence.{header-of, record-of, ZerosBeyond, numbers-of}
 use Rattle.boundary.specs.Parts.{quantization-context, quantization-params, quantization-walk, segmentation-context, segmentation-params, segmentation-walk, loop-filter-context, loop-filter-params, loop-filter-walk, cdef-context, cdef-params, cdef-walk, lr-context, lr-params, lr-walk}
+use Rattle.boundary.specs.Held.{held-quantization, held-segmentation, held-loop-filter}
 use Rattle.boundary.specs.Calls.{answer-of, lent, wrote-obu, wrote-part, outcome-numbers, was-read, part-numbers}
+use Rattle.boundary.proofs.GivenQuantization.{quantization-given}
+use Rattle.boundary.proofs.GivenSegmentation.{segmentation-given}
+use Rattle.boundary.proofs.GivenLoopFilter.{loop-filter-given}
 
 -- the numbers of a reader that accepts
 pub done-is : (o : Outcome) → o ≡ Done → record { number = 0; first = 0; second = 0 } ≡ outcome-numbers o
 done-is o e = rw e
 
 -- a writer's answer, told by its numbers
-obu-crosses : {w v : Walk} {xs ys l : List ℕ} {r : O.Answer} {n : Numbered} → w ≡ v → obu.Writes w xs r ys → n ≡ obu.answerNumbers r → l ≡ answer-of n → lent l ys ≡ wrote-obu v xs
-obu-crosses e (obu.writes a b) k h = rw (← e) (rw (h, k, a, b))
+obu-crosses : {w : Walk} (v : Walk) {xs ys l : List ℕ} {r : O.Answer} {n : Numbered} → run w ≡ run v → obu.Writes w xs r ys → n ≡ obu.answerNumbers r → l ≡ answer-of n → lent l ys ≡ wrote-obu v xs
+unfolding obu.written
+obu-crosses v e (obu.writes a b) k h = rw (← e) (rw (h, k, a, b))
 
-part-crosses : {w v : Walk} {place : ℕ} {xs ys l : List ℕ} {r : P.Answer} {n : Numbered} → w ≡ v → part.Writes w place xs r ys → n ≡ part.answered r → l ≡ answer-of n → lent l ys ≡ wrote-part v place xs
-part-crosses e (part.writes a b) k h = rw (← e) (rw (h, k, a, b))
+part-crosses : {w : Walk} (v : Walk) {place : ℕ} {xs ys l : List ℕ} {r : P.Answer} {n : Numbered} → run w ≡ run v → part.Writes w place xs r ys → n ≡ part.answered r → l ≡ answer-of n → lent l ys ≡ wrote-part v place xs
+unfolding part.written
+part-crosses v e (part.writes a b) k h = rw (← e) (rw (h, k, a, b))
 
 module _ {out end l : List ℕ} {n : Numbered} (told : l ≡ answer-of n) where
   module _ {r : O.Answer} (is : n ≡ obu.answerNumbers r) where
-    pub sequence-crosses : (xs : List ℕ) (h : SequenceHeaderObu) → sequence-header .coded h ≡ sequence-header .coded (record-of xs) → obu.Writes (sequence-header .enc h) out r end → lent l end ≡ wrote-obu (sequence-header .enc (record-of xs)) out
-    sequence-crosses xs h e w = let s = same-answer h (record-of xs) e w (obu.writes refl refl) in obu-crosses refl (obu.writes (s .0) (s .1)) is told
+    pub sequence-crosses : (xs : List ℕ) (h : SequenceHeaderObu) → run (sequence-header .enc h) ≡ run (sequence-header .enc (record-of xs)) → obu.Writes (sequence-header .enc h) out r end → lent l end ≡ wrote-obu (sequence-header .enc (record-of xs)) out
+    sequence-crosses xs h e w = obu-crosses _ e w is told
 
     pub delimiter-crosses : (xs : List ℕ) {h : ObuHeader} → h ≡ header-of xs → obu.Writes (temporal-delimiter h) out r end → lent l end ≡ wrote-obu (temporal-delimiter (header-of xs)) out
-    delimiter-crosses xs e w = obu-crosses (ap temporal-delimiter e) w is told
+    delimiter-crosses xs e w = obu-crosses _ (ap (λ (h : ObuHeader). run (temporal-delimiter h)) e) w is told
 
   module _ {r : P.Answer} (is : n ≡ part.answered r) {place : ℕ} (xs : List ℤ) where
-    pub quantization-crosses : {p : QuantizationParams} {k : QuantizationContext} → p ≡ quantization-params xs → k ≡ quantization-context xs → part.Writes (quantization.quantization-params k .enc p) place out r end
+    pub quantization-crosses : {p : QuantizationParams} {k : QuantizationContext} → p ≡ held-quantization (quantization-params xs) → k ≡ quantization-context xs → part.Writes (quantization.quantization-params k .enc p) place out r end
         → lent l end ≡ wrote-part (quantization-walk xs) place out
-    quantization-crosses e f w = part-crosses (λ i. quantization.quantization-params (f i) .enc (e i)) w is told
+    quantization-crosses e f w = part-crosses _ ((λ i. run (quantization.quantization-params (f i) .enc (e i))) ∙ quantization-given (quantization-params xs) (quantization-context xs)) w is told
 
-    pub segmentation-crosses : {p : SegmentationParams} {k : SegmentationContext} → p ≡ segmentation-params xs → k ≡ segmentation-context xs → part.Writes (segmentation.segmentation-params k .enc p) place out r end
+    pub segmentation-crosses : {p : SegmentationParams} {k : SegmentationContext} → p ≡ held-segmentation (segmentation-params xs) → k ≡ segmentation-context xs → part.Writes (segmentation.segmentation-params k .enc p) place out r end
         → lent l end ≡ wrote-part (segmentation-walk xs) place out
-    segmentation-crosses e f w = part-crosses (λ i. segmentation.segmentation-params (f i) .enc (e i)) w is told
+    segmentation-crosses e f w = part-crosses _ ((λ i. run (segmentation.segmentation-params (f i) .enc (e i))) ∙ segmentation-given (segmentation-params xs) (segmentation-context xs)) w is told
 
-    pub loop-filter-crosses : {p : LoopFilterParams} {k : LoopFilterContext} → p ≡ loop-filter-params xs → k ≡ loop-filter-context xs → part.Writes (loop-filter.loop-filter-params k loop-filter.no-old .enc p) place out r end
+    pub loop-filter-crosses : {p : LoopFilterParams} {k : LoopFilterContext} → p ≡ held-loop-filter (loop-filter-params xs) → k ≡ loop-filter-context xs → part.Writes (loop-filter.loop-filter-params k loop-filter.no-old .enc p) place out r end
         → lent l end ≡ wrote-part (loop-filter-walk xs) place out
-    loop-filter-crosses e f w = part-crosses (λ i. loop-filter.loop-filter-params (f i) loop-filter.no-old .enc (e i)) w is told
+    loop-filter-crosses e f w = part-crosses _ ((λ i. run (loop-filter.loop-filter-params (f i) loop-filter.no-old .enc (e i))) ∙ loop-filter-given (loop-filter-params xs) (loop-filter-context xs) loop-filter.no-old) w is told
 
     pub cdef-crosses : {p : CdefParams} {k : CdefContext} → p ≡ cdef-params xs → k ≡ cdef-context xs → part.Writes (cdef.cdef-params k .enc p) place out r end → lent l end ≡ wrote-part (cdef-walk xs) place out
-    cdef-crosses e f w = part-crosses (λ i. cdef.cdef-params (f i) .enc (e i)) w is told
+    cdef-crosses e f w = part-crosses _ (λ i. run (cdef.cdef-params (f i) .enc (e i))) w is told
 
     pub lr-crosses : {p : LoopRestorationParams} {k : LoopRestorationContext} → p ≡ lr-params xs → k ≡ lr-context xs → part.Writes (restoration.lr-params k .enc p) place out r end → lent l end ≡ wrote-part (lr-walk xs) place out
-    lr-crosses e f w = part-crosses (λ i. restoration.lr-params (f i) .enc (e i)) w is told
+    lr-crosses e f w = part-crosses _ (λ i. run (restoration.lr-params (f i) .enc (e i))) w is told
 
 -- the reader leaves zeros beyond the count
 all-zeros : (n i : ℕ) → getD (replicate n no-point) i no-point ≡ no-point

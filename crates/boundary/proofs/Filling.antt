@@ -1,6 +1,6 @@
 -- An array that is filled from its first place on.
 use mathlib.Core.Path.{_≡_, refl, sym, ap, _∙_}
-use mathlib.Core.List.{List, [], _∷_, _++_, append-assoc, append-nil}
+use mathlib.Core.List.{List, [], _∷_, _++_, map, append-assoc, append-nil}
 use mathlib.Core.Logic.{⊎-elim}
 use Prim.Native.Nat.{ℕ, zero, suc, _+_, _-_, _*_, _<_, _≤_, min}
 use native.Mathlib.Omega.{arith}
@@ -123,3 +123,16 @@ module _ {A : Type 0} {f : ℕ → A} {m : ℕ} {list : List A} {i : ℕ} where
       let j : i ≡ m = omega (arith, length-each f i) in
       let l : list ≡ each i f = finish {front = each i f} (begun rest k e) (omega (arith, length-each f i)) in
       rw j at l
+
+-- and of another array, over each place of which a function went
+map-append : {A B : Type 0} (g : A → B) (xs ys : List A) → map g (xs ++ ys) ≡ map g xs ++ map g ys
+map-append g [] ys = refl
+map-append g (x ∷ xs) ys = rw (map-append g xs ys)
+
+map-each : {A B : Type 0} (g : A → B) (f : ℕ → A) (n : ℕ) → map g (each n f) ≡ each n (λ i. g (f i))
+unfolding joined
+map-each g f zero = refl
+map-each g f (suc n) = map-append g (each n f) (f n ∷ []) ∙ rw (map-each g f n)
+
+pub filled-map : {A B : Type 0} (g : A → B) (f : ℕ → A) (m : ℕ) {list : List B} {i : ℕ} → Filled (λ j. g (f j)) m list i → m ≤ i → list ≡ map g (each m f)
+filled-map g f m h l = filled-end h l ∙ sym (map-each g f m)

@@ -1,34 +1,25 @@
 -- Parameters of the loop filter whose deltas are held in 8 bits are written as those given.
 use mathlib.Core.Path.{_≡_, refl}
-use mathlib.Core.Bool.{Bool, true, cond, _||_}
+use mathlib.Core.Bool.{true, _||_}
 use Prim.Native.Nat.{ℕ, _<_}
 use native.Mathlib.Omega.{arith}
 use lib.ListN.{getD}
 use lib.IntN.{ℤ, pos}
 use lib.Signed.{mag}
 use Rattle.bits.specs.Walk.{run}
-use Rattle.bits.specs.Codec.{flag, absent, choose, recode, _▷_}
-use Rattle.bits.specs.Codes.{su}
 use Rattle.bits.specs.Elements.{loop-filter-ref-deltas, loop-filter-mode-deltas}
 use Rattle.loop_filter.specs.declared.LoopFilterParams.{LoopFilterParams}
 use Rattle.loop_filter.specs.declared.LoopFilterContext.{LoopFilterContext}
-use Rattle.loop_filter.specs.LoopFilter.{Deltas, delta, ref-deltas, mode-deltas, deltas, delta-update, rest, filter-on, default-deltas, default-refs, default-modes, no-rest, filter-off, loop-filter-table, modes-out, deltas-out, rest-out, loop-filter-out, loop-filter-in, loop-filter-params}
+use Rattle.loop_filter.specs.LoopFilter as loop-filter
+use Rattle.loop_filter.specs.LoopFilter.{Deltas, ref-deltas, mode-deltas, deltas, delta-update, rest, filter-on, default-deltas, default-refs, default-modes, no-rest, filter-off, loop-filter-table, deltas-out, rest-out, loop-filter-out, loop-filter-in, loop-filter-params}
 use Rattle.boundary.specs.Held.{int8, held-loop-filter}
-use Rattle.boundary.proofs.Alike.{Alike, itself, both, chosen, nothing, through, regained, Each, mapped, placed, listed, All, last, next, entry}
+use Rattle.boundary.proofs.Alike.{Alike, itself, both, chosen, nothing, through, Each, mapped, placed, listed, last, next, entry}
 use Rattle.boundary.proofs.Near as near
-use Rattle.boundary.proofs.Near.{NearZ, clip-near, signed, looked-for}
+use Rattle.boundary.proofs.Near.{NearZ, clip-near, delta, looked-for}
 
--- a delta is got back from its flag and its number
-abbrev delta-in : ℤ → Bool × ℤ → ℤ
-delta-in old p = cond (p .0) (p .1) old
-
-delta-back : (old : ℤ) (e i : ℕ) (z : ℤ) → delta-in old ((flag ▷ λ coded. choose coded (su 7 e i) (absent (pos 0))) .coded (true, z)) ≡ z
-unfolding _▷_ flag choose su recode
-delta-back old e i z = refl
-
-one : (old : ℤ) (e i : ℕ) (y z : ℤ) → NearZ 127 y z → Alike (delta old e i) y z
-unfolding delta
-one old e i y z near = regained (λ z. (true, z)) (delta-in old) (delta-back old e i y) (delta-back old e i z) (both itself (λ coded. chosen coded (signed 7 e i 127 (omega arith) near) (nothing (pos 0) y z)))
+one : (old : ℤ) (e i : ℕ) (y z : ℤ) → NearZ 127 y z → Alike (loop-filter.delta old e i) y z
+unfolding loop-filter.delta
+one old e i y z near = delta 7 e i 127 (omega arith) (λ _. true) old (λ _. refl) refl near
 
 small : (i : ℕ) → mag (getD default-deltas i (pos 0)) < 127
 small = entry (λ z. mag z < 127) (pos 0) zero (next one (next zero (next zero (next zero (next zero (next zero (next zero (next zero last))))))))
@@ -47,7 +38,7 @@ module _ (p : LoopFilterParams) where
   refs = mapped int8 (clip-near 127) (p .«loop_filter_ref_deltas»)
 
   mode : (i : ℕ) → NearZ 127 (getD (held .«loop_filter_mode_deltas») i (pos 0)) (getD (p .«loop_filter_mode_deltas») i (pos 0))
-  mode = placed {R = NearZ 127} (pos 0) near.equal (mapped int8 (clip-near 127) (p .«loop_filter_mode_deltas»))
+  mode = placed {R = NearZ 127} (pos 0) near.alone (mapped int8 (clip-near 127) (p .«loop_filter_mode_deltas»))
 
   coded : (old : Deltas) → Alike (deltas old) (deltas-out held) (deltas-out p)
   unfolding deltas ref-deltas mode-deltas

@@ -9,7 +9,7 @@ use lib.Dec.{eqb}
 use lib.IntN.{ℤ, pos}
 use lib.Signed.{mag}
 use Rattle.bits.specs.Walk.{either, done, run}
-use Rattle.bits.specs.Codec.{flag, absent, choose, merged, recode, _▷_}
+use Rattle.bits.specs.Codec.{flag, absent, choose, merged, _▷_}
 use Rattle.bits.specs.Codes.{su}
 use Rattle.bits.specs.Elements.{delta-q-y-dc, delta-q-u-dc, delta-q-u-ac, delta-q-v-dc, delta-q-v-ac}
 use Rattle.bits.proofs.Storing.{below-or}
@@ -17,26 +17,22 @@ use Rattle.parts.specs.Codes.{same, inferredSigned}
 use Rattle.parts.proofs.Signs.{same-is}
 use Rattle.quantization.specs.declared.QuantizationParams.{QuantizationParams}
 use Rattle.quantization.specs.declared.QuantizationContext.{QuantizationContext}
-use Rattle.quantization.specs.Quantization.{delta-out, delta-in, read-delta-q, v-coded, v-inferred, v-deltas, uv-deltas, no-uv-deltas, three-planes, one-plane, chroma, quantization-table, v-out, uv-out, chroma-out, quantization-out, quantization-in, quantization-params}
+use Rattle.quantization.specs.Quantization.{read-delta-q, v-coded, v-inferred, v-deltas, uv-deltas, no-uv-deltas, three-planes, one-plane, chroma, quantization-table, v-out, uv-out, chroma-out, quantization-out, quantization-in, quantization-params}
 use Rattle.boundary.specs.Held.{int8, held-quantization}
-use Rattle.boundary.proofs.Alike.{Alike, equal, itself, following, both, chosen, nothing, through, regained, join-done, refuses-done}
-use Rattle.boundary.proofs.Near.{clip-near, beyond, signed, same-near, found, looked-for}
+use Rattle.boundary.proofs.Alike.{Alike, itself, following, both, chosen, through, join-done, refuses-done}
+use Rattle.boundary.proofs.Near.{clip-near, beyond, delta, same-near, found, looked-for}
 
--- a delta is got back from its flag and its number
-delta-back : (e : ℕ) (z : ℤ) → delta-in ((flag ▷ λ coded. choose coded (su 7 e 0) (absent (pos 0))) .coded (delta-out z)) ≡ z
-unfolding flag _▷_ choose absent su recode
-delta-back e z = go (same z (pos 0)) refl
+-- zero has no flag and is got back without
+delta-back : (z : ℤ) → cond (not (same z (pos 0))) (cond (not (same z (pos 0))) z (pos 0)) (pos 0) ≡ z
+delta-back z = go (same z (pos 0)) refl
   where
     go : (t : Bool) → same z (pos 0) ≡ t → cond (not t) (cond (not t) z (pos 0)) (pos 0) ≡ z
     go true h = sym (same-is z (pos 0) h)
     go false h = refl
 
-delta : (e : ℕ) (z : ℤ) → Alike (read-delta-q e) (int8 z) z
+delta-q : (e : ℕ) (z : ℤ) → Alike (read-delta-q e) (int8 z) z
 unfolding read-delta-q
-delta e z =
-    regained delta-out delta-in (delta-back e (int8 z)) (delta-back e z) (
-    both (equal (ap not (same-near (pos 0) (omega arith) (clip-near 127 z)))) (λ coded.
-    chosen coded (signed 7 e 0 127 (omega arith) (clip-near 127 z)) (nothing (pos 0) _ _)))
+delta-q e z = delta 7 e 0 127 (omega arith) (λ z. not (same z (pos 0))) (pos 0) delta-back (ap not (same-near (pos 0) (omega arith) (clip-near 127 z))) (clip-near 127 z)
 
 -- one that was written is small
 small : (e : ℕ) (z : ℤ) → run (read-delta-q e .enc z) .end ≡ done → mag z < 127
@@ -60,11 +56,11 @@ module _ (q : QuantizationParams) where
 
   v : (diff : Bool) (dc ac : ℤ) → mag dc < 127 → mag ac < 127 → Alike (v-deltas diff dc ac) (v-out held) (v-out q)
   unfolding v-deltas v-coded
-  v diff dc ac l m = chosen diff (both (delta delta-q-v-dc _) (λ _. delta delta-q-v-ac _)) (v-as-u dc ac l m)
+  v diff dc ac l m = chosen diff (both (delta-q delta-q-v-dc _) (λ _. delta-q delta-q-v-ac _)) (v-as-u dc ac l m)
 
   uv : (diff : Bool) → Alike (uv-deltas diff) (uv-out held) (uv-out q)
   unfolding uv-deltas read-delta-q merged
-  uv diff = following _ (delta delta-q-u-dc _) (λ h. following _ (delta delta-q-u-ac _) (λ k. v diff _ _ (small delta-q-u-dc (held .«delta_q_u_dc») h) (small delta-q-u-ac (held .«delta_q_u_ac») k)))
+  uv diff = following _ (delta-q delta-q-u-dc _) (λ h. following _ (delta-q delta-q-u-ac _) (λ k. v diff _ _ (small delta-q-u-dc (held .«delta_q_u_dc») h) (small delta-q-u-ac (held .«delta_q_u_ac») k)))
 
   no-uv : Alike no-uv-deltas (uv-out held) (uv-out q)
   unfolding no-uv-deltas inferredSigned
@@ -79,7 +75,7 @@ module _ (q : QuantizationParams) where
 
   whole : (k : QuantizationContext) → Alike (quantization-params k) held q
   unfolding quantization-params quantization-table
-  whole k = through quantization-out quantization-in (both itself (λ _. both (delta delta-q-y-dc _) (λ _. both (colors _ _) (λ _. itself))))
+  whole k = through quantization-out quantization-in (both itself (λ _. both (delta-q delta-q-y-dc _) (λ _. both (colors _ _) (λ _. itself))))
 
   pub quantization-given : (k : QuantizationContext) → run (quantization-params k .enc (held-quantization q)) ≡ run (quantization-params k .enc q)
   quantization-given k = whole k .runs

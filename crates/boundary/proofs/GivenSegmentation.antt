@@ -15,7 +15,7 @@ use Rattle.segmentation.specs.declared.SegmentationContext.{SegmentationContext
 use Rattle.segmentation.specs.Segmentation as segmentation
 use Rattle.segmentation.specs.Segmentation.{feature-bits, feature-max, signed-value, unsigned-value, feature-value, feature, features, no-data, no-features, features-if, with-reference, without-reference, enabled-params, segmentation-table, features-out, segmentation-out, segmentation-in, segmentation-params}
 use Rattle.boundary.specs.Held.{int16, held-segmentation}
-use Rattle.boundary.proofs.Alike.{Alike, equal, itself, both, chosen, nothing, through, Each, none, more, mapped, listed, All, last, next, entry}
+use Rattle.boundary.proofs.Alike.{Alike, equal, itself, both, chosen, nothing, through, Each, none, more, mapped, listed, last, next, entry}
 use Rattle.boundary.proofs.Near as near
 use Rattle.boundary.proofs.Near.{NearZ, clip-near, looked-for, clipped, clipped-plain}
 
@@ -23,10 +23,10 @@ data Limit : ℤ → Type 0 where
   limit : (n : ℕ) → n ≤ 255 → Limit (pos n)
 
 limits : (j : ℕ) → Limit (feature-max j)
-limits = entry Limit (pos 0) none (next (limit 255 (omega arith)) (next six (next six (next six (next six (next (limit 7 (omega arith)) (next none (next none last))))))))
+limits = entry Limit (pos 0) zero (next (limit 255 (omega arith)) (next six (next six (next six (next six (next (limit 7 (omega arith)) (next zero (next zero last))))))))
   where
-    none : Limit (pos 0)
-    none = limit 0 (omega arith)
+    zero : Limit (pos 0)
+    zero = limit 0 (omega arith)
 
     six : Limit (pos 63)
     six = limit 63 (omega arith)
@@ -56,7 +56,7 @@ zipped : {xs ys : List ℤ} (bs : List Bool) → Each (NearZ 32767) xs ys → Ea
 unfolding zip
 zipped [] none = none
 zipped [] (more r rs) = more (refl, r) (zipped [] rs)
-zipped (b ∷ bs) none = more (refl, near.equal) (zipped bs none)
+zipped (b ∷ bs) none = more (refl, near.alone) (zipped bs none)
 zipped (b ∷ bs) (more r rs) = more (refl, r) (zipped bs rs)
 
 module _ (p : SegmentationParams) where

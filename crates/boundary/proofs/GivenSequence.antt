@@ -6,14 +6,13 @@ use native.Mathlib.Omega.{arith}
 use lib.Pow.{pow-mono}
 use borrow.Author.Tests.{lt-ltb}
 use Rattle.bits.specs.Walk.{run}
-use Rattle.bits.specs.Codec.{Codec, via}
+use Rattle.bits.specs.Codec.{via}
 use Rattle.bits.specs.Elements.{buffer-delay-length-minus-1, frame-width-bits-minus-1, frame-height-bits-minus-1, order-hint-bits-minus-1}
 use Rattle.obu.specs.Frame.{framed}
 use Rattle.obu.specs.Obu.{obu}
-use Rattle.obu.specs.declared.header.ObuHeader.{ObuHeader}
 use Rattle.sequence.specs.declared.record.DecoderModelInfo.{DecoderModelInfo}
 use Rattle.sequence.specs.declared.record.SequenceHeaderObu.{SequenceHeaderObu}
-use Rattle.sequence.specs.Fields.{decoder-model-info-out, decoder-model-info-in, timing-out, timing-in, timing-of, general-out, frame-size-out, frame-size-in, frame-size-of, hint-bits-out, hint-bits-in, hint-bits-of, motion-out, inter-tools-out, inter-tools-in, inter-tools-of, tools-out, body-out, sequence-out, record-out}
+use Rattle.sequence.specs.Fields.{decoder-model-info-out, decoder-model-info-in, timing-out, timing-in, timing-of, general-out, frame-size-out, frame-size-in, frame-size-of, hint-bits-out, hint-bits-in, hint-bits-of, inter-tools-out, inter-tools-in, inter-tools-of, body-out, sequence-out}
 use Rattle.sequence.specs.Timing.{decoder-model-info, no-timing-info, no-decoder-model-info, decoder-model-info-if, timing, reduced-timing}
 use Rattle.sequence.specs.Frame.{counted, frame-size-fields, frame-size}
 use Rattle.sequence.specs.Tools.{hint-bits, motion-tools, order-tools, full-tools, reduced-motion-tools, reduced-order-tools, reduced-tools, inter-tools}

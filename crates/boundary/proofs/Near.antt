@@ -9,7 +9,7 @@ use lib.IntN.{ℤ, pos, negsuc, negℤ}
 use lib.Signed.{mag, ltZ}
 use borrow.Author.Tests.{ltb-true, ltb-false, lt-ltb, le-ltb, lt-leb, ne-eqb}
 use Rattle.bits.specs.Walk.{done, refuses, demand, run}
-use Rattle.bits.specs.Codec.{Codec, f, recode}
+use Rattle.bits.specs.Codec.{Codec, f, flag, absent, choose, merged, recode, _▷_}
 use Rattle.bits.specs.Codes.{su}
 use Rattle.bits.specs.declared.answer.Refusal.{Refusal}
 use Rattle.bits.specs.declared.answer.Refusal.the-variants.{Inconsistent, Unfit}
@@ -17,7 +17,7 @@ use Rattle.bits.proofs.Laws.{refused-done}
 use Rattle.bits.proofs.Storing.{below-or}
 use Rattle.parts.specs.Codes.{same, inferredSigned, clip, trimmed}
 use Rattle.parts.proofs.Signs.{same-is}
-use Rattle.boundary.proofs.Alike.{Alike, itself, turned-down}
+use Rattle.boundary.proofs.Alike.{Alike, equal, itself, turned-down, both, chosen, nothing, regained}
 
 -- two numbers that are equal, or both m and more
 pub data Near (m : ℕ) : ℕ → ℕ → Type 0 where
@@ -38,7 +38,7 @@ field n e i m {x} {y} h (past p q) = turned-down (unfit n e i x (omega arith)) (
 
 -- equal, or both m and more, or both -(m + 1) and less
 pub data NearZ (m : ℕ) : ℤ → ℤ → Type 0 where
-  equal : {z : ℤ} → NearZ m z z
+  alone : {z : ℤ} → NearZ m z z
   above : {a b : ℕ} → m ≤ a → m ≤ b → NearZ m (pos a) (pos b)
   below : {a b : ℕ} → m ≤ a → m ≤ b → NearZ m (negsuc a) (negsuc b)
 
@@ -48,12 +48,12 @@ clip-near m (pos a) = go (ltb m a) refl
   where
     go : (t : Bool) → ltb m a ≡ t → NearZ m (cond t (pos m) (pos a)) (pos a)
     go true e = above {a = m} {b = a} (omega arith) (omega (arith, ltb-true m a e))
-    go false e = equal
+    go false e = alone
 clip-near m (negsuc a) = go (ltb m a) refl
   where
     go : (t : Bool) → ltb m a ≡ t → NearZ m (cond t (negsuc m) (negsuc a)) (negsuc a)
     go true e = below {a = m} {b = a} (omega arith) (omega (arith, ltb-true m a e))
-    go false e = equal
+    go false e = alone
 
 -- su(n), whose numbers go from -2^(n - 1) to 2^(n - 1) - 1
 pub beyond : (n e i : ℕ) (z : ℤ) → 2 ^ n ≤ mag z * 2 → run (su n e i .enc z) ≡ refuses (Unfit e i)
@@ -63,13 +63,25 @@ beyond n e i (negsuc a) h = rw (lt-leb (suc a * 2) (2 ^ n) (omega arith)) (unfit
 
 module _ (n e i m : ℕ) (h : 2 ^ n ≤ m * 2) where
   pub signed : {y z : ℤ} → NearZ m y z → Alike (su n e i) y z
-  signed equal = itself
+  signed alone = itself
   signed (above {a} {b} p q) = turned-down (beyond n e i (pos a) (omega arith)) (beyond n e i (pos b) (omega arith))
   signed (below {a} {b} p q) = turned-down (beyond n e i (negsuc a) (omega arith)) (beyond n e i (negsuc b) (omega arith))
 
+-- a flag, and su(n) where it is set: a delta
+module _ (n e i m : ℕ) (h : 2 ^ n ≤ m * 2) (set : ℤ → Bool) (old : ℤ) (back : (z : ℤ) → cond (set z) (cond (set z) z (pos 0)) old ≡ z) where
+  abbrev delta-in : Bool × ℤ → ℤ
+  delta-in p = cond (p .0) (p .1) old
+
+  got-back : (z : ℤ) → delta-in ((flag ▷ λ coded. choose coded (su n e i) (absent (pos 0))) .coded (set z, z)) ≡ z
+  unfolding flag _▷_ choose absent su recode
+  got-back z = back z
+
+  pub delta : {y z : ℤ} → set y ≡ set z → NearZ m y z → Alike (merged (λ z. (set z, z)) delta-in (flag ▷ λ coded. choose coded (su n e i) (absent (pos 0)))) y z
+  delta {y} {z} same near = regained (λ z. (set z, z)) delta-in (got-back y) (got-back z) (both (equal same) (λ coded. chosen coded (signed n e i m h near) (nothing (pos 0) y z)))
+
 -- a number that is looked for inside the bounds
 pub same-near : {m : ℕ} (x : ℤ) {y z : ℤ} → mag x < m → NearZ m y z → same y x ≡ same z x
-same-near x l equal = refl
+same-near x l alone = refl
 same-near (pos x) l (above {a} {b} p q) = ne-eqb a x (λ e. omega arith) ∙ sym (ne-eqb b x (λ e. omega arith))
 same-near (negsuc x) l (above p q) = refl
 same-near (pos x) l (below p q) = refl
@@ -108,7 +120,7 @@ module _ (low : ℤ) (high m : ℕ) (h : high ≤ m) (up : (a : ℕ) → ltZ (po
   clip-below a p = rw (down a p)
 
   clip-same : {y z : ℤ} → NearZ m y z → clip low (pos high) y ≡ clip low (pos high) z
-  clip-same equal = refl
+  clip-same alone = refl
   clip-same (above {a} {b} p q) = clip-above a p ∙ sym (clip-above b q)
   clip-same (below {a} {b} p q) = clip-below a p ∙ sym (clip-below b q)
 

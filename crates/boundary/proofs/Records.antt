@@ -2,11 +2,16 @@
 use mathlib.Core.Path.{_≡_, sym, ap, _∙_}
 use mathlib.Core.List.{List}
 use mathlib.Core.Bool.{Bool}
-use Prim.Native.Nat.{ℕ, _+_, _<_, _≤_}
+use Prim.Native.Nat.{ℕ, _+_, _^_, _<_, _≤_}
 use native.Mathlib.Omega.{arith}
 use lib.ListN.{take, getD}
 use lib.Seq.{getD-take}
 use lib.IntN.{ℤ}
+use Rattle.bits.specs.Walk.{run}
+use Rattle.bits.specs.Codec.{via}
+use Rattle.bits.proofs.Laws.{same-coded}
+use Rattle.obu.specs.Frame.{framed}
+use Rattle.obu.specs.Obu.{obu}
 use Rattle.obu.specs.declared.header.ObuHeader.{ObuHeader}
 use Rattle.sequence.specs.declared.record.TimingInfo.{TimingInfo}
 use Rattle.sequence.specs.declared.record.DecoderModelInfo.{DecoderModelInfo}
@@ -14,7 +19,10 @@ use Rattle.sequence.specs.declared.record.OperatingPoint.{OperatingPoint}
 use Rattle.sequence.specs.declared.record.ColorConfig.{ColorConfig}
 use Rattle.sequence.specs.declared.record.SequenceHeaderObu.{SequenceHeaderObu}
 use Rattle.sequence.specs.Points.{no-point}
+use Rattle.sequence.specs.Fields.{sequence-out}
 use Rattle.sequence.specs.Sequence.{sequence-header}
+use Rattle.sequence.proofs.Laws.{sequence-header-obu-law}
+use Rattle.sequence.proofs.Unused.{with-points, unused}
 use Rattle.quantization.specs.declared.QuantizationContext.{QuantizationContext}
 use Rattle.quantization.specs.declared.QuantizationParams.{QuantizationParams}
 use Rattle.segmentation.specs.declared.SegmentationContext.{SegmentationContext}
@@ -26,15 +34,22 @@ use Rattle.cdef.specs.declared.CdefParams.{CdefParams}
 use Rattle.restoration.specs.declared.LoopRestorationContext.{LoopRestorationContext}
 use Rattle.restoration.specs.declared.LoopRestorationParams.{LoopRestorationParams}
 use Rattle.boundary.specs.Parts.{quantization-context, quantization-params, segmentation-context, segmentation-params, loop-filter-context, loop-filter-params, cdef-context, cdef-params, lr-context, lr-params}
-use Rattle.boundary.specs.Numbers.{at, flag-at, byte-at, each}
+use Rattle.boundary.specs.Numbers.{at, flag-at, each}
+use Rattle.boundary.specs.Held.{byte, held-model, held-header, held-quantization, held-segmentation, held-loop-filter}
 use Rattle.boundary.specs.Sequence.{general, model, points, frame, ids, tools, choices, hints, filters, grain, header-of, timing-of, model-of, point-of, color-of, record-of, used}
 use Rattle.boundary.proofs.Filling.{getD-each}
-use Rattle.sequence.proofs.Unused.{unused}
+use Rattle.boundary.proofs.GivenSequence.{header-given}
+
+-- the walk of a sequence header looks at no point beyond the count
+walked-unused : (h : SequenceHeaderObu) (ps qs : List OperatingPoint) → ((i : ℕ) → i < 32 → i ≤ h .«operating_points_cnt_minus_1» → getD ps i no-point ≡ getD qs i no-point)
+    → run (sequence-header .enc (with-points h ps)) ≡ run (sequence-header .enc (with-points h qs))
+unfolding sequence-header via obu framed run
+walked-unused h ps qs same = rw (same-coded sequence-header-obu-law (sequence-out (with-points h ps)) (sequence-out (with-points h qs)) (ap sequence-out (unused h ps qs same)))
 
 -- the sequence header's record as the code makes it
 module _ (xs : List ℕ) where
-  abbrev made : ObuHeader → TimingInfo → DecoderModelInfo → List OperatingPoint → ColorConfig → ℕ → ℕ → ℕ → SequenceHeaderObu
-  made h t m ps k w v b = record {
+  abbrev made : ObuHeader → TimingInfo → DecoderModelInfo → List OperatingPoint → ColorConfig → ℕ → ℕ → ℕ → ℕ → ℕ → SequenceHeaderObu
+  made h t m ps k w v x y b = record {
     «obu_header» = h;
     «seq_profile» = at xs general;
     «still_picture» = flag-at xs (general + 1);
@@ -48,8 +63,8 @@ module _ (xs : List ℕ) where
     «operating_points» = ps;
     «frame_width_bits_minus_1» = w;
     «frame_height_bits_minus_1» = v;
-    «max_frame_width_minus_1» = at xs (frame + 2);
-    «max_frame_height_minus_1» = at xs (frame + 3);
+    «max_frame_width_minus_1» = x;
+    «max_frame_height_minus_1» = y;
     «frame_id_numbers_present_flag» = flag-at xs ids;
     «delta_frame_id_length_minus_2» = at xs (ids + 1);
     «additional_frame_id_length_minus_1» = at xs (ids + 2);
@@ -76,19 +91,24 @@ module _ (xs : List ℕ) where
     «film_grain_params_present» = flag-at xs grain;
   }
 
-  -- what is coded of it goes by the points that are used
-  pub record-coded : (ps : List OperatingPoint) {h : ObuHeader} {t : TimingInfo} {m : DecoderModelInfo} {k : ColorConfig} {w v b : ℕ}
+  -- its walk is that of the numbers given: it looks at the points that are used, and the fields that are held in 8 bits are written as those given
+  pub record-given : (ps : List OperatingPoint) {h : ObuHeader} {t : TimingInfo} {m : DecoderModelInfo} {k : ColorConfig} {w v x y b : ℕ}
       → h ≡ header-of xs
       → t ≡ timing-of xs
-      → m ≡ model-of xs
+      → m ≡ held-model (model-of xs)
       → take (used (at xs 19)) ps ≡ each (used (at xs 19)) (point-of xs)
       → k ≡ color-of xs
-      → w ≡ byte-at xs frame
-      → v ≡ byte-at xs (frame + 1)
-      → b ≡ byte-at xs hints
-      → sequence-header .coded (made h t m ps k w v b) ≡ sequence-header .coded (record-of xs)
+      → w ≡ byte (at xs frame)
+      → v ≡ byte (at xs (frame + 1))
+      → (x ≡ at xs (frame + 2)) × (at xs (frame + 2) < 2 ^ 32)
+      → (y ≡ at xs (frame + 3)) × (at xs (frame + 3) < 2 ^ 32)
+      → b ≡ byte (at xs hints)
+      → run (sequence-header .enc (made h t m ps k w v x y b)) ≡ run (sequence-header .enc (record-of xs))
   unfolding record-of
-  record-coded ps h t m e k w v b = ap (sequence-header .coded) (λ i. made (h i) (t i) (m i) ps (k i) (w i) (v i) (b i)) ∙ unused (record-of xs) ps (each 32 (point-of xs)) same
+  record-given ps h t m e k w v x y b =
+      (λ i. run (sequence-header .enc (made (h i) (t i) (m i) ps (k i) (w i) (v i) (x .0 i) (y .0 i) (b i)))) ∙
+      walked-unused (held-header (record-of xs)) ps (each 32 (point-of xs)) same ∙
+      header-given (record-of xs) (x .1) (y .1)
     where
       same : (i : ℕ) → i < 32 → i ≤ at xs 19 → getD ps i no-point ≡ getD (each 32 (point-of xs)) i no-point
       same i l u =
@@ -103,18 +123,18 @@ module _ (xs : List ℤ) where
   quantization-context-is a b = λ i. record { planes = a i; «separate_uv_delta_q» = b i }
 
   pub quantization-params-is : {a : ℕ} {b : ℤ} {c : Bool} {d e f g : ℤ} {h : Bool} {j k l : ℕ}
-      → a ≡ quantization-params xs .«base_q_idx»
-      → b ≡ quantization-params xs .«delta_q_y_dc»
-      → c ≡ quantization-params xs .«diff_uv_delta»
-      → d ≡ quantization-params xs .«delta_q_u_dc»
-      → e ≡ quantization-params xs .«delta_q_u_ac»
-      → f ≡ quantization-params xs .«delta_q_v_dc»
-      → g ≡ quantization-params xs .«delta_q_v_ac»
-      → h ≡ quantization-params xs .«using_qmatrix»
-      → j ≡ quantization-params xs .«qm_y»
-      → k ≡ quantization-params xs .«qm_u»
-      → l ≡ quantization-params xs .«qm_v»
-      → _≡_ {A = QuantizationParams} (record { «base_q_idx» = a; «delta_q_y_dc» = b; «diff_uv_delta» = c; «delta_q_u_dc» = d; «delta_q_u_ac» = e; «delta_q_v_dc» = f; «delta_q_v_ac» = g; «using_qmatrix» = h; «qm_y» = j; «qm_u» = k; «qm_v» = l }) (quantization-params xs)
+      → a ≡ held-quantization (quantization-params xs) .«base_q_idx»
+      → b ≡ held-quantization (quantization-params xs) .«delta_q_y_dc»
+      → c ≡ held-quantization (quantization-params xs) .«diff_uv_delta»
+      → d ≡ held-quantization (quantization-params xs) .«delta_q_u_dc»
+      → e ≡ held-quantization (quantization-params xs) .«delta_q_u_ac»
+      → f ≡ held-quantization (quantization-params xs) .«delta_q_v_dc»
+      → g ≡ held-quantization (quantization-params xs) .«delta_q_v_ac»
+      → h ≡ held-quantization (quantization-params xs) .«using_qmatrix»
+      → j ≡ held-quantization (quantization-params xs) .«qm_y»
+      → k ≡ held-quantization (quantization-params xs) .«qm_u»
+      → l ≡ held-quantization (quantization-params xs) .«qm_v»
+      → _≡_ {A = QuantizationParams} (record { «base_q_idx» = a; «delta_q_y_dc» = b; «diff_uv_delta» = c; «delta_q_u_dc» = d; «delta_q_u_ac» = e; «delta_q_v_dc» = f; «delta_q_v_ac» = g; «using_qmatrix» = h; «qm_y» = j; «qm_u» = k; «qm_v» = l }) (held-quantization (quantization-params xs))
   quantization-params-is a b c d e f g h j k l = λ i. record { «base_q_idx» = a i; «delta_q_y_dc» = b i; «diff_uv_delta» = c i; «delta_q_u_dc» = d i; «delta_q_u_ac» = e i; «delta_q_v_dc» = f i; «delta_q_v_ac» = g i; «using_qmatrix» = h i; «qm_y» = j i; «qm_u» = k i; «qm_v» = l i }
 
   pub segmentation-context-is : {a : ℕ}
@@ -123,13 +143,13 @@ module _ (xs : List ℤ) where
   segmentation-context-is a = λ i. record { «primary_ref_frame» = a i }
 
   pub segmentation-params-is : {a b c d : Bool} {e : List Bool} {f : List ℤ}
-      → a ≡ segmentation-params xs .«segmentation_enabled»
-      → b ≡ segmentation-params xs .«segmentation_update_map»
-      → c ≡ segmentation-params xs .«segmentation_temporal_update»
-      → d ≡ segmentation-params xs .«segmentation_update_data»
-      → e ≡ segmentation-params xs .«feature_enabled»
-      → f ≡ segmentation-params xs .«feature_data»
-      → _≡_ {A = SegmentationParams} (record { «segmentation_enabled» = a; «segmentation_update_map» = b; «segmentation_temporal_update» = c; «segmentation_update_data» = d; «feature_enabled» = e; «feature_data» = f }) (segmentation-params xs)
+      → a ≡ held-segmentation (segmentation-params xs) .«segmentation_enabled»
+      → b ≡ held-segmentation (segmentation-params xs) .«segmentation_update_map»
+      → c ≡ held-segmentation (segmentation-params xs) .«segmentation_temporal_update»
+      → d ≡ held-segmentation (segmentation-params xs) .«segmentation_update_data»
+      → e ≡ held-segmentation (segmentation-params xs) .«feature_enabled»
+      → f ≡ held-segmentation (segmentation-params xs) .«feature_data»
+      → _≡_ {A = SegmentationParams} (record { «segmentation_enabled» = a; «segmentation_update_map» = b; «segmentation_temporal_update» = c; «segmentation_update_data» = d; «feature_enabled» = e; «feature_data» = f }) (held-segmentation (segmentation-params xs))
   segmentation-params-is a b c d e f = λ i. record { «segmentation_enabled» = a i; «segmentation_update_map» = b i; «segmentation_temporal_update» = c i; «segmentation_update_data» = d i; «feature_enabled» = e i; «feature_data» = f i }
 
   pub loop-filter-context-is : {a b : Bool} {c : ℕ}
@@ -140,13 +160,13 @@ module _ (xs : List ℤ) where
   loop-filter-context-is a b c = λ i. record { «coded_lossless» = a i; «allow_intrabc» = b i; planes = c i }
 
   pub loop-filter-params-is : {a : List ℕ} {b : ℕ} {c d : Bool} {e f : List ℤ}
-      → a ≡ loop-filter-params xs .«loop_filter_level»
-      → b ≡ loop-filter-params xs .«loop_filter_sharpness»
-      → c ≡ loop-filter-params xs .«loop_filter_delta_enabled»
-      → d ≡ loop-filter-params xs .«loop_filter_delta_update»
-      → e ≡ loop-filter-params xs .«loop_filter_ref_deltas»
-      → f ≡ loop-filter-params xs .«loop_filter_mode_deltas»
-      → _≡_ {A = LoopFilterParams} (record { «loop_filter_level» = a; «loop_filter_sharpness» = b; «loop_filter_delta_enabled» = c; «loop_filter_delta_update» = d; «loop_filter_ref_deltas» = e; «loop_filter_mode_deltas» = f }) (loop-filter-params xs)
+      → a ≡ held-loop-filter (loop-filter-params xs) .«loop_filter_level»
+      → b ≡ held-loop-filter (loop-filter-params xs) .«loop_filter_sharpness»
+      → c ≡ held-loop-filter (loop-filter-params xs) .«loop_filter_delta_enabled»
+      → d ≡ held-loop-filter (loop-filter-params xs) .«loop_filter_delta_update»
+      → e ≡ held-loop-filter (loop-filter-params xs) .«loop_filter_ref_deltas»
+      → f ≡ held-loop-filter (loop-filter-params xs) .«loop_filter_mode_deltas»
+      → _≡_ {A = LoopFilterParams} (record { «loop_filter_level» = a; «loop_filter_sharpness» = b; «loop_filter_delta_enabled» = c; «loop_filter_delta_update» = d; «loop_filter_ref_deltas» = e; «loop_filter_mode_deltas» = f }) (held-loop-filter (loop-filter-params xs))
   loop-filter-params-is a b c d e f = λ i. record { «loop_filter_level» = a i; «loop_filter_sharpness» = b i; «loop_filter_delta_enabled» = c i; «loop_filter_delta_update» = d i; «loop_filter_ref_deltas» = e i; «loop_filter_mode_deltas» = f i }
 
   pub cdef-context-is : {a b c : Bool} {d : ℕ}

@@ -1,12 +1,12 @@
 -- How a number crosses into a field, and an array of them.
 use mathlib.Core.List.{List, [], _∷_, _++_}
 use mathlib.Core.Bool.{Bool, not}
-use Prim.Native.Nat.{ℕ, zero, suc, min}
+use Prim.Native.Nat.{ℕ, zero, suc}
 use lib.Dec.{eqb}
 use lib.ListN.{getD}
 use lib.IntN.{ℤ, pos, negsuc}
 use mir.Val.{boolByte}
-use Rattle.parts.specs.Codes.{same, clip}
+use Rattle.parts.specs.Codes.{same}
 
 -- the number at a place
 abbrev pub at : List ℕ → ℕ → ℕ
@@ -19,12 +19,8 @@ flag-at xs i = not (eqb (at xs i) 0)
 abbrev pub of-flag : Bool → ℕ
 of-flag = boolByte
 
--- a field of a byte takes the nearest number that it holds
-abbrev pub byte-at : List ℕ → ℕ → ℕ
-byte-at xs i = min (at xs i) 255
-
--- Where numbers have a sign: a flag; a field without sign, which takes a number below 0 as the largest number; and fields of 8 and of 16 bits, which
--- take the nearest number that they hold.
+-- Where numbers have a sign: the number itself; a flag; and a field without sign, which takes a number below 0 as the largest number, that no coded
+-- field holds either.
 abbrev pub signed-at : List ℤ → ℕ → ℤ
 signed-at xs i = getD xs i (pos 0)
 
@@ -37,12 +33,6 @@ natural (negsuc n) = 4294967295
 
 abbrev pub natural-at : List ℤ → ℕ → ℕ
 natural-at xs i = natural (signed-at xs i)
-
-abbrev pub int8-at : List ℤ → ℕ → ℤ
-int8-at xs i = clip (negsuc 127) (pos 127) (signed-at xs i)
-
-abbrev pub int16-at : List ℤ → ℕ → ℤ
-int16-at xs i = clip (negsuc 32767) (pos 32767) (signed-at xs i)
 
 -- f 0, f 1, .., f (n - 1), one behind the other, and the same of single values
 unfoldable pub joined : {A : Type 0} → ℕ → (ℕ → List A) → List A

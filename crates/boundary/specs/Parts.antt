@@ -18,7 +18,7 @@ use Rattle.cdef.specs.declared.CdefParams.{CdefParams}
 use Rattle.cdef.specs.declared.CdefContext.{CdefContext}
 use Rattle.restoration.specs.declared.LoopRestorationParams.{LoopRestorationParams}
 use Rattle.restoration.specs.declared.LoopRestorationContext.{LoopRestorationContext}
-use Rattle.boundary.specs.Numbers.{set-at, natural-at, int8-at, int16-at, each}
+use Rattle.boundary.specs.Numbers.{signed-at, set-at, natural-at, each}
 
 abbrev pub quantization-context : List ℤ → QuantizationContext
 quantization-context xs = record { planes = natural-at xs 0; «separate_uv_delta_q» = set-at xs 1 }
@@ -26,12 +26,12 @@ quantization-context xs = record { planes = natural-at xs 0; «separate_uv_delta
 abbrev pub quantization-params : List ℤ → QuantizationParams
 quantization-params xs = record {
   «base_q_idx» = natural-at xs 2;
-  «delta_q_y_dc» = int8-at xs 3;
+  «delta_q_y_dc» = signed-at xs 3;
   «diff_uv_delta» = set-at xs 4;
-  «delta_q_u_dc» = int8-at xs 5;
-  «delta_q_u_ac» = int8-at xs 6;
-  «delta_q_v_dc» = int8-at xs 7;
-  «delta_q_v_ac» = int8-at xs 8;
+  «delta_q_u_dc» = signed-at xs 5;
+  «delta_q_u_ac» = signed-at xs 6;
+  «delta_q_v_dc» = signed-at xs 7;
+  «delta_q_v_ac» = signed-at xs 8;
   «using_qmatrix» = set-at xs 9;
   «qm_y» = natural-at xs 10;
   «qm_u» = natural-at xs 11;
@@ -48,7 +48,7 @@ segmentation-params xs = record {
   «segmentation_temporal_update» = set-at xs 3;
   «segmentation_update_data» = set-at xs 4;
   «feature_enabled» = each 64 (λ i. set-at xs (5 + i));
-  «feature_data» = each 64 (λ i. int16-at xs (69 + i));
+  «feature_data» = each 64 (λ i. signed-at xs (69 + i));
 }
 
 abbrev pub loop-filter-context : List ℤ → LoopFilterContext
@@ -60,8 +60,8 @@ loop-filter-params xs = record {
   «loop_filter_sharpness» = natural-at xs 7;
   «loop_filter_delta_enabled» = set-at xs 8;
   «loop_filter_delta_update» = set-at xs 9;
-  «loop_filter_ref_deltas» = each 8 (λ i. int8-at xs (10 + i));
-  «loop_filter_mode_deltas» = int8-at xs 18 ∷ int8-at xs 19 ∷ [];
+  «loop_filter_ref_deltas» = each 8 (λ i. signed-at xs (10 + i));
+  «loop_filter_mode_deltas» = signed-at xs 18 ∷ signed-at xs 19 ∷ [];
 }
 
 abbrev pub cdef-context : List ℤ → CdefContext

@@ -10,7 +10,7 @@ use Rattle.sequence.specs.declared.record.OperatingPoint.{OperatingPoint}
 use Rattle.sequence.specs.declared.record.ColorConfig.{ColorConfig}
 use Rattle.sequence.specs.declared.record.SequenceHeaderObu.{SequenceHeaderObu}
 use Rattle.sequence.specs.Points.{no-point}
-use Rattle.boundary.specs.Numbers.{at, flag-at, of-flag, byte-at, joined, each}
+use Rattle.boundary.specs.Numbers.{at, flag-at, of-flag, joined, each}
 
 -- where each group begins
 abbrev pub general : ℕ
@@ -76,7 +76,7 @@ timing-of xs = record {
 
 abbrev pub model-of : List ℕ → DecoderModelInfo
 model-of xs = record {
-  «buffer_delay_length_minus_1» = byte-at xs (model + 1);
+  «buffer_delay_length_minus_1» = at xs (model + 1);
   «num_units_in_decoding_tick» = at xs (model + 2);
   «buffer_removal_time_length_minus_1» = at xs (model + 3);
   «frame_presentation_time_length_minus_1» = at xs (model + 4);
@@ -124,8 +124,8 @@ record-of xs = record {
   «initial_display_delay_present_flag» = flag-at xs points;
   «operating_points_cnt_minus_1» = at xs (points + 1);
   «operating_points» = each 32 (point-of xs);
-  «frame_width_bits_minus_1» = byte-at xs frame;
-  «frame_height_bits_minus_1» = byte-at xs (frame + 1);
+  «frame_width_bits_minus_1» = at xs frame;
+  «frame_height_bits_minus_1» = at xs (frame + 1);
   «max_frame_width_minus_1» = at xs (frame + 2);
   «max_frame_height_minus_1» = at xs (frame + 3);
   «frame_id_numbers_present_flag» = flag-at xs ids;
@@ -145,7 +145,7 @@ record-of xs = record {
   «seq_force_screen_content_tools» = at xs (choices + 1);
   «seq_choose_integer_mv» = flag-at xs (choices + 2);
   «seq_force_integer_mv» = at xs (choices + 3);
-  «order_hint_bits_minus_1» = byte-at xs hints;
+  «order_hint_bits_minus_1» = at xs hints;
   «order_hint_bits» = at xs (hints + 1);
   «enable_superres» = flag-at xs filters;
   «enable_cdef» = flag-at xs (filters + 1);

@@ -5,6 +5,7 @@ use crate::number::natural;
 use loop_filter::LoopFilterContext;
 use loop_filter::LoopFilterParams;
 ghost use mathlib.Core.Path.{_≡_};
+ghost use Rattle.boundary.specs.Held.{held-loop-filter};
 ghost use Rattle.boundary.specs.Parts.{loop-filter-context, loop-filter-params};
 
 pub fn loop_filter_context(n: &[i32; 20]) -> LoopFilterContext
@@ -24,7 +25,7 @@ fn levels(n: &[i32; 20]) -> [u32; 4]
 }
 
 fn ref_deltas(n: &[i32; 20]) -> [i8; 8]
-    ensures { λ r. ⌜ r ≡ loop-filter-params (now (n .entry)) .«loop_filter_ref_deltas» ⌝ }
+    ensures { λ r. ⌜ r ≡ held-loop-filter (loop-filter-params (now (n .entry))) .«loop_filter_ref_deltas» ⌝ }
 {
     let mut a = [0i8; 8];
     for i in 0..8 {
@@ -34,13 +35,13 @@ fn ref_deltas(n: &[i32; 20]) -> [i8; 8]
 }
 
 fn mode_deltas(n: &[i32; 20]) -> [i8; 2]
-    ensures { λ r. ⌜ r ≡ loop-filter-params (now (n .entry)) .«loop_filter_mode_deltas» ⌝ }
+    ensures { λ r. ⌜ r ≡ held-loop-filter (loop-filter-params (now (n .entry))) .«loop_filter_mode_deltas» ⌝ }
 {
     [int8(n, 18), int8(n, 19)]
 }
 
 pub fn loop_filter_params(n: &[i32; 20]) -> LoopFilterParams
-    ensures { λ r. ⌜ r ≡ loop-filter-params (now (n .entry)) ⌝ }
+    ensures { λ r. ⌜ r ≡ held-loop-filter (loop-filter-params (now (n .entry))) ⌝ }
 {
     let loop_filter_level = levels(n);
     let loop_filter_ref_deltas = ref_deltas(n);

@@ -1,11 +1,12 @@
-// A number as a field takes it. A field of a narrower type takes the nearest number that it holds, which is refused as the number itself would be; a
-// number below 0 goes into a field without sign as the largest number, which no coded field of a part holds.
+// A number as a field takes it. A field of a narrower type takes the nearest number that it holds, and the record is answered as the one with the number
+// itself; a number below 0 goes into a field without sign as the largest number, which no coded field of a part holds.
 ghost use mathlib.Core.Path.{_≡_};
-ghost use Prim.Native.Nat.{min};
-ghost use Rattle.boundary.specs.Numbers.{signed-at, set-at, natural-at, int8-at, int16-at};
+ghost use Prim.Native.Nat.{_^_, _<_};
+ghost use Rattle.boundary.specs.Numbers.{signed-at, set-at, natural-at};
+ghost use Rattle.boundary.specs.Held.{byte, int8, int16};
 
 pub fn byte(n: u32) -> u8
-    ensures { λ r. ⌜ r ≡ min n 255 ⌝ }
+    ensures { λ r. ⌜ r ≡ byte n ⌝ }
 {
     if n < 255 { n as u8 } else { 255 }
 }
@@ -14,6 +15,13 @@ pub fn wide(n: u8) -> u32
     ensures { λ r. ⌜ r ≡ n ⌝ }
 {
     n as u32
+}
+
+// A number into a field of 32 bits, which holds it.
+pub fn word(n: u32) -> u32
+    ensures { λ r. ⌜ (r ≡ n) × (n < 2 ^ 32) ⌝ }
+{
+    n
 }
 
 // The number at a place; beyond the last, 0.
@@ -40,7 +48,7 @@ pub fn natural(n: &[i32], i: usize) -> u32
 }
 
 pub fn int8(n: &[i32], i: usize) -> i8
-    ensures { λ r. ⌜ r ≡ int8-at (now (n .entry)) i ⌝ }
+    ensures { λ r. ⌜ r ≡ int8 (signed-at (now (n .entry)) i) ⌝ }
 {
     let x = number(n, i);
     if x < -128 {
@@ -53,7 +61,7 @@ pub fn int8(n: &[i32], i: usize) -> i8
 }
 
 pub fn int16(n: &[i32], i: usize) -> i16
-    ensures { λ r. ⌜ r ≡ int16-at (now (n .entry)) i ⌝ }
+    ensures { λ r. ⌜ r ≡ int16 (signed-at (now (n .entry)) i) ⌝ }
 {
     let x = number(n, i);
     if x < -32768 {

@@ -5,6 +5,7 @@ use crate::number::natural;
 use quantization::QuantizationContext;
 use quantization::QuantizationParams;
 ghost use mathlib.Core.Path.{_≡_};
+ghost use Rattle.boundary.specs.Held.{held-quantization};
 ghost use Rattle.boundary.specs.Parts.{quantization-context, quantization-params};
 
 pub fn quantization_context(n: &[i32; 13]) -> QuantizationContext
@@ -17,7 +18,7 @@ pub fn quantization_context(n: &[i32; 13]) -> QuantizationContext
 }
 
 pub fn quantization_params(n: &[i32; 13]) -> QuantizationParams
-    ensures { λ r. ⌜ r ≡ quantization-params (now (n .entry)) ⌝ }
+    ensures { λ r. ⌜ r ≡ held-quantization (quantization-params (now (n .entry))) ⌝ }
 {
     QuantizationParams {
         base_q_idx: natural(n, 2),

@@ -5,6 +5,7 @@ use crate::number::natural;
 use segmentation::SegmentationContext;
 use segmentation::SegmentationParams;
 ghost use mathlib.Core.Path.{_≡_};
+ghost use Rattle.boundary.specs.Held.{held-segmentation};
 ghost use Rattle.boundary.specs.Parts.{segmentation-context, segmentation-params};
 
 pub fn segmentation_context(n: &[i32; 133]) -> SegmentationContext
@@ -26,7 +27,7 @@ fn feature_enabled(n: &[i32; 133]) -> [bool; 64]
 }
 
 fn feature_data(n: &[i32; 133]) -> [i16; 64]
-    ensures { λ r. ⌜ r ≡ segmentation-params (now (n .entry)) .«feature_data» ⌝ }
+    ensures { λ r. ⌜ r ≡ held-segmentation (segmentation-params (now (n .entry))) .«feature_data» ⌝ }
 {
     let mut a = [0i16; 64];
     for i in 0..64 {
@@ -36,7 +37,7 @@ fn feature_data(n: &[i32; 133]) -> [i16; 64]
 }
 
 pub fn segmentation_params(n: &[i32; 133]) -> SegmentationParams
-    ensures { λ r. ⌜ r ≡ segmentation-params (now (n .entry)) ⌝ }
+    ensures { λ r. ⌜ r ≡ held-segmentation (segmentation-params (now (n .entry))) ⌝ }
 {
     let feature_enabled = feature_enabled(n);
     let feature_data = feature_data(n);

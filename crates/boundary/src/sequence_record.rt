@@ -1,13 +1,16 @@
 // The sequence header's record from its numbers. Each group has a first place.
 use crate::header::obu_header;
 use crate::number::byte;
+use crate::number::word;
 use crate::points::operating_points;
 use sequence::record::ColorConfig;
 use sequence::record::DecoderModelInfo;
 use sequence::record::SequenceHeaderObu;
 use sequence::record::TimingInfo;
 ghost use mathlib.Core.Path.{_≡_};
+ghost use Rattle.bits.specs.Walk.{run};
 ghost use Rattle.sequence.specs.Sequence.{sequence-header};
+ghost use Rattle.boundary.specs.Held.{held-model};
 ghost use Rattle.boundary.specs.Sequence.{timing-of, model-of, color-of, record-of};
 
 const GENERAL: usize = 5;
@@ -46,7 +49,7 @@ fn timing_info(n: &[u32; 347]) -> TimingInfo
 }
 
 fn decoder_model_info(n: &[u32; 347]) -> DecoderModelInfo
-    ensures { λ r. ⌜ r ≡ model-of (now (n .entry)) ⌝ }
+    ensures { λ r. ⌜ r ≡ held-model (model-of (now (n .entry))) ⌝ }
 {
     DecoderModelInfo {
         buffer_delay_length_minus_1: byte(n[MODEL + 1]),
@@ -75,9 +78,9 @@ fn color_config(n: &[u32; 347]) -> ColorConfig
     }
 }
 
-// All of the record that a walk looks at.
+// A record that is walked as the one that the numbers give.
 pub fn sequence_header(n: &[u32; 347]) -> SequenceHeaderObu
-    ensures { λ r. ⌜ sequence-header .coded r ≡ sequence-header .coded (record-of (now (n .entry))) ⌝ }
+    ensures { λ r. ⌜ run (sequence-header .enc r) ≡ run (sequence-header .enc (record-of (now (n .entry)))) ⌝ }
 {
     let obu_header = obu_header(n[0], n[1], n[2], n[3], n[4]);
     let timing_info = timing_info(n);
@@ -98,8 +101,8 @@ pub fn sequence_header(n: &[u32; 347]) -> SequenceHeaderObu
         operating_points,
         frame_width_bits_minus_1: byte(n[FRAME]),
         frame_height_bits_minus_1: byte(n[FRAME + 1]),
-        max_frame_width_minus_1: n[FRAME + 2],
-        max_frame_height_minus_1: n[FRAME + 3],
+        max_frame_width_minus_1: word(n[FRAME + 2]),
+        max_frame_height_minus_1: word(n[FRAME + 3]),
         frame_id_numbers_present_flag: n[IDS] != 0,
         delta_frame_id_length_minus_2: n[IDS + 1],
         additional_frame_id_length_minus_1: n[IDS + 2],

@@ -2,14 +2,15 @@
 use Prim.Native.Nat.{_+_, _-_}
 use borrow.Author.Needs.{needs}
 use lib.IntN.{pos}
-use Rattle.boundary.specs.Numbers.{int16-at}
-use Rattle.boundary.proofs.Filling.{Filled, filled-none, filled-on, filled-has, filled-end}
+use Rattle.boundary.specs.Numbers.{signed-at}
+use Rattle.boundary.specs.Held.{int16}
+use Rattle.boundary.proofs.Filling.{Filled, filled-none, filled-on, filled-has, filled-map}
 use Rattle.boundary.proofs.Narrowing.{stored}
 use Rattle.boundary.proofs.segmentation_record.feature_data.Statement.{statement}
 use Rattle.boundary.proofs.segmentation_record.feature_data.Tie as tie
 
 abbrev Inv-loop : tie.InvT-loop
-Inv-loop n a₀ i₀ a i = Filled (λ j. int16-at n (69 + j)) 64 a i
+Inv-loop n a₀ i₀ a i = Filled (λ j. int16 (signed-at n (69 + j))) 64 a i
 
 abbrev μ-loop : tie.MeasureT-loop
 μ-loop n a₀ i₀ a i = 64 - i
@@ -20,4 +21,4 @@ feature-data-spec =
     (tie.spec
     Inv-loop
     μ-loop
-    (λ c. filled-none (pos 0)) (λ c. search needs) (λ c κs. search needs) (λ c. search needs) (λ c. search filled-has) (λ c. search needs) (λ c. search needs) (λ c. search (filled-on, stored)) (λ c. search filled-end))
+    (λ c. filled-none (pos 0)) (λ c. search needs) (λ c κs. search needs) (λ c. search needs) (λ c. search filled-has) (λ c. search needs) (λ c. search needs) (λ c. search (filled-on, stored)) (λ c. search filled-map))
