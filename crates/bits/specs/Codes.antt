@@ -24,7 +24,9 @@ unfoldable pub topBit : ℕ → ℕ → ℕ
 topBit zero w = zero
 topBit (suc k) w = cond (leb (2 ^ suc k) w) (suc k) (topBit k w)
 
--- uvlc: v + 1 is 2^z + x: z zeros, a one, x in z bits
+-- uvlc: v + 1 is 2^z + x: z zeros, a one, x in z bits.
+-- Difference (docs/DIFFERENCES.md, rows 6 and 8): the standard codes 2^32 - 1 as 32 zeros and a one, and reads 32 zeros as 2^32 - 1. Document 01
+-- refuses both; the crate writes 32 zeros and no one.
 abbrev pub uvlc-out : ℕ → ℕ × ℕ
 uvlc-out v = (topBit 32 (v + 1), v + 1 - 2 ^ topBit 32 (v + 1))
 

@@ -60,7 +60,8 @@ rest old =
 unfoldable pub filter-on : ℕ → Deltas → Codec (Levels × Rest)
 filter-on planes old = levels planes ▷ λ _. rest old
 
--- under lossless coding or intra block copy nothing is coded: levels 0 and 1 are 0, and the deltas are these
+-- Under lossless coding or intra block copy nothing is coded: levels 0 and 1 are 0, and the deltas are these.
+-- Difference (docs/DIFFERENCES.md, row 28): this is the crate's list, as document 01 has it. The standard's is 1, 0, 0, 0, -1, 0, -1, -1.
 abbrev pub default-deltas : List ℤ
 default-deltas = pos 1 ∷ pos 0 ∷ pos 0 ∷ pos 0 ∷ pos 0 ∷ negsuc 0 ∷ negsuc 0 ∷ negsuc 0 ∷ []
 

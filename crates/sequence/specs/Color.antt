@@ -47,6 +47,7 @@ mono-planes = via planes-out planes-in (
     fixed-sampling true true ▷ λ _.
     inferredFlag separate-uv-delta-q 0 false)
 
+-- Difference (docs/DIFFERENCES.md, row 33): players refuse sRGB where the profile has no 4:4:4. As in the crate, that is not checked.
 unfoldable pub srgb-planes : Codec Planes
 srgb-planes = via planes-out planes-in (
     inferredFlag color-range 0 true ▷ λ _.

@@ -43,6 +43,8 @@ point-rest level has-model n has-delay i =
     point-model has-model n i ▷ λ _.
     point-delay has-delay i
 
+-- Difference (docs/DIFFERENCES.md, row 32): players refuse an idc other than 0 that has no temporal or no spatial layer. As in the crate, that is not
+-- checked.
 unfoldable pub operating-point : Bool → ℕ → Bool → ℕ → Codec OperatingPoint
 operating-point has-model n has-delay i = via operating-point-out operating-point-in (
     f 12 operating-point-idc i ▷ λ _.

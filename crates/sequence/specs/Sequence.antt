@@ -50,7 +50,8 @@ body profile reduced =
     frame-ids reduced ▷ λ _.
     tools profile reduced
 
--- the whole
+-- The whole.
+-- Difference (docs/DIFFERENCES.md, row 17): the standard demands still_picture with the reduced header. As in the crate, that is not checked.
 unfoldable pub sequence-header-obu : Codec SequenceTable
 sequence-header-obu =
     profile ▷ λ seq-profile.
