@@ -2,9 +2,9 @@
 use mathlib.Core.Path.{_≡_, refl, sym, ap, _∙_}
 use mathlib.Core.List.{List}
 use mathlib.Core.Logic.{⊎-elim}
-use Prim.Native.Nat.{ℕ, _+_, _-_, _/_, _<_, _≤_}
+use Prim.Native.Nat.{ℕ, _+_, _-_, _/_, _^_, _<_, _≤_}
 use native.Mathlib.Omega.{arith}
-use lib.ListN.{length, drop, length-drop}
+use lib.ListN.{length, take, drop, length-drop}
 use lib.Seq.{length-take-le}
 use denote.Ref.{RefT, now}
 use Rattle.bits.specs.Bits.{end}
@@ -95,17 +95,21 @@ pub few : (xs : List ℕ) → payloadPart xs .place + payloadPart xs .size ≤ 6
 unfolding payloadPart
 few xs = ⊎-elim (λ (h : 65536 < length xs). rw (read-long sequence-header xs h) (omega arith)) (λ (h : length xs ≤ 65536). omega (arith, for-within (read sequence-header xs) xs)) (below-or 65536 (length xs))
 
--- what is handed back, where the reader refused and where it accepted
-module _ {s r : RefT (List ℕ)} where
-  handed : {p : Part} → p ≡ payloadPart (now s) → now r ≡ part p (now s) → r .ptr ≡ (s .ptr .0, p .place + s .ptr .1) → Hands s r
-  handed e b q = hands (b ∙ ap (λ (p : Part). part p (now s)) e) (q ∙ ap (λ (p : Part). (s .ptr .0, p .place + s .ptr .1)) e)
+module _ (xs : List ℕ) {p : Part} (e : p ≡ payloadPart xs) where
+  pub part-ends : p .place + p .size ≤ length xs
+  part-ends = rw e (within xs)
 
-  module _ {a : SequenceAnswer} (e : a ≡ answerFor (read sequence-header (now s))) where
-    pub handed-none : {z : Refusal} → a .outcome ≡ Refused z → now r ≡ part (record { place = 0; size = 0 }) (now s) → r .ptr ≡ (s .ptr .0, 0 + s .ptr .1) → Hands s r
-    handed-none h b q = handed (part-none (now s) e h) b q
+  pub part-fits : p .place + p .size < 2 ^ 64
+  part-fits = rw e (omega (arith, few xs))
 
-    pub handed-rest : {n : ℕ} → a .outcome ≡ Done → n ≡ behind (now s) → now r ≡ part (record { place = n; size = length (now s) - n }) (now s) → r .ptr ≡ (s .ptr .0, n + s .ptr .1) → Hands s r
-    handed-rest h k b q = handed (part-some (now s) e h k) b q
+  pub part-is : {n : ℕ} → n ≡ p .place + p .size → take (n - p .place) (drop (p .place) xs) ≡ part (payloadPart xs) xs
+  part-is {n} h = rw (← e, size h)
+    where
+      size : n ≡ p .place + p .size → n - p .place ≡ p .size
+      size k = omega arith
+
+  pub part-place : {block : ℕ} (offset : ℕ) → _≡_ {A = ℕ × ℕ} (block, p .place + offset) (block, payloadPart xs .place + offset)
+  part-place offset = rw e
 
 -- One slice for every input: any two that the contract allows have the same bytes, and point to the same place.
 pub only : {s r t : RefT (List ℕ)} → Hands s r → Hands s t → (now r ≡ now t) × (r .ptr ≡ t .ptr)

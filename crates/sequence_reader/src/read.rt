@@ -87,11 +87,8 @@ pub fn payload_part(input: &[u8]) -> Part
 pub fn payload(input: &[u8]) -> &[u8]
     ensures { λ r. ⌜ Hands (input .entry) r ⌝ }
 {
-    let a = read_sequence_header(input);
-    let o = a.outcome;
-    let Outcome::Done = o else {
-        return &input[0..0];
-    };
-    let at = behind(input);
-    &input[at..]
+    let p = payload_part(input);
+    let at = p.place;
+    let end = at + p.size;
+    &input[at..end]
 }
