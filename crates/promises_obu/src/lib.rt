@@ -1,0 +1,49 @@
+// The public calls on OBUs once more: each function has the contract of the call of its name, and does nothing but call it. The wrong programs in
+// must-fail/ are other bodies: what a contract rules out is tried here, where a try takes seconds.
+use obu::answer::Answer;
+use obu::header::ObuHeader;
+use sequence::record::SequenceHeaderObu;
+use sequence_reader::read::Part;
+use sequence_reader::read::SequenceAnswer;
+ghost use mathlib.Core.Path.{_≡_};
+ghost use Rattle.obu.specs.Writer.{Writes};
+ghost use Rattle.obu.specs.Delimiter.{temporal-delimiter, IsDelimiter, Tells};
+ghost use Rattle.sequence.specs.Sequence.{sequence-header};
+ghost use Rattle.sequence_reader.specs.Reader.{Answers};
+ghost use Rattle.sequence_reader.specs.Payload.{payloadPart, Hands};
+
+pub fn write_sequence_header(record: SequenceHeaderObu, out: &mut [u8]) -> Answer
+    ensures { λ r. ⌜ Writes (sequence-header .enc «record») (now (out .entry)) r (now (out .exit)) ⌝ }
+{
+    sequence::write::write_sequence_header(record, out)
+}
+
+pub fn write_temporal_delimiter(header: ObuHeader, out: &mut [u8]) -> Answer
+    ensures { λ r. ⌜ Writes (temporal-delimiter header) (now (out .entry)) r (now (out .exit)) ⌝ }
+{
+    obu::delimiter::write_temporal_delimiter(header, out)
+}
+
+pub fn is_temporal_delimiter(input: &[u8]) -> bool
+    ensures { λ r. ⌜ Tells r (IsDelimiter (now (input .entry))) ⌝ }
+{
+    obu::delimiter::is_temporal_delimiter(input)
+}
+
+pub fn read_sequence_header(input: &[u8]) -> SequenceAnswer
+    ensures { λ r. ⌜ Answers (now (input .entry)) r ⌝ }
+{
+    sequence_reader::read::read_sequence_header(input)
+}
+
+pub fn payload_part(input: &[u8]) -> Part
+    ensures { λ r. ⌜ r ≡ payloadPart (now (input .entry)) ⌝ }
+{
+    sequence_reader::read::payload_part(input)
+}
+
+pub fn payload(input: &[u8]) -> &[u8]
+    ensures { λ r. ⌜ Hands (input .entry) r ⌝ }
+{
+    sequence_reader::read::payload(input)
+}

@@ -1,0 +1,69 @@
+// The writers of the frame parts once more: each function has the contract of the call of its name, and does nothing but call it. The wrong programs in
+// must-fail/ are other bodies: what a contract rules out is tried here, where a try takes seconds.
+use cdef::CdefContext;
+use cdef::CdefParams;
+use loop_filter::LoopFilterContext;
+use loop_filter::LoopFilterParams;
+use parts::answer::Answer;
+use quantization::QuantizationContext;
+use quantization::QuantizationParams;
+use restoration::LoopRestorationContext;
+use restoration::LoopRestorationParams;
+use segmentation::SegmentationContext;
+use segmentation::SegmentationParams;
+ghost use Rattle.parts.specs.Written.{Writes};
+ghost use Rattle.quantization.specs.Quantization.{quantization-params};
+ghost use Rattle.segmentation.specs.Segmentation.{segmentation-params};
+ghost use Rattle.loop_filter.specs.LoopFilter.{loop-filter-params, no-old};
+ghost use Rattle.cdef.specs.Cdef.{cdef-params};
+ghost use Rattle.restoration.specs.Restoration.{lr-params};
+
+pub fn write_quantization_params(
+    q: QuantizationParams,
+    k: QuantizationContext,
+    out: &mut [u8],
+    place: u32,
+) -> Answer
+    ensures { λ r. ⌜ Writes (quantization-params k .enc q) place (now (out .entry)) r (now (out .exit)) ⌝ }
+{
+    quantization::write_quantization_params(q, k, out, place)
+}
+
+pub fn write_segmentation_params(
+    p: SegmentationParams,
+    k: SegmentationContext,
+    out: &mut [u8],
+    place: u32,
+) -> Answer
+    ensures { λ r. ⌜ Writes (segmentation-params k .enc p) place (now (out .entry)) r (now (out .exit)) ⌝ }
+{
+    segmentation::write_segmentation_params(p, k, out, place)
+}
+
+pub fn write_loop_filter_params(
+    p: LoopFilterParams,
+    k: LoopFilterContext,
+    out: &mut [u8],
+    place: u32,
+) -> Answer
+    ensures { λ r. ⌜ Writes (loop-filter-params k no-old .enc p) place (now (out .entry)) r (now (out .exit)) ⌝ }
+{
+    loop_filter::write_loop_filter_params(p, k, out, place)
+}
+
+pub fn write_cdef_params(p: CdefParams, k: CdefContext, out: &mut [u8], place: u32) -> Answer
+    ensures { λ r. ⌜ Writes (cdef-params k .enc p) place (now (out .entry)) r (now (out .exit)) ⌝ }
+{
+    cdef::write_cdef_params(p, k, out, place)
+}
+
+pub fn write_lr_params(
+    p: LoopRestorationParams,
+    k: LoopRestorationContext,
+    out: &mut [u8],
+    place: u32,
+) -> Answer
+    ensures { λ r. ⌜ Writes (lr-params k .enc p) place (now (out .entry)) r (now (out .exit)) ⌝ }
+{
+    restoration::write_lr_params(p, k, out, place)
+}
