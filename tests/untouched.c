@@ -20,7 +20,7 @@ static bool intact(const void *memory, size_t size) {
 static void judge(const char *call, const uint32_t answer[], uint32_t number, const void *memory, size_t size) {
   bool kept = intact(memory, size);
   if (answer[FRISCURELLA_ANSWER_NUMBER] == number && kept) return;
-  printf("%s: answered %u and not %u, what was lent is %s\n", call, (unsigned)answer[FRISCURELLA_ANSWER_NUMBER], (unsigned)number,
+  printf("%s: answered %u where %u is expected, and what was lent is %s\n", call, (unsigned)answer[FRISCURELLA_ANSWER_NUMBER], (unsigned)number,
          kept ? "intact" : "changed");
   failures++;
 }
