@@ -261,9 +261,6 @@ left-more l q w h = record { rest = λ t us v. l .rest t us (as-run q (hop w h v
 pub left-halt : {T p a : Walk} (b : Walk) {c d : Cursor} {xs ys zs : List ℕ} {s : Step} {r : Refusal} → Left T c xs p d ys → run (a ⊕ b) ≡ run p → Walked a d ys s zs → s ≡ Refused r → Walked T c xs s zs
 left-halt b {zs = zs} {s = s} l q w h = l .rest s zs (as-run q (halt {w = b} w h))
 
-pub left-sized : {T p a : Walk} {c d : Cursor} {xs ys zs : List ℕ} {s : Step} → Left T c xs p d ys → Walked a d ys s zs → length zs ≡ length xs
-left-sized l w = kept w ∙ l .size
-
 pub left-none : {T p : Walk} {c d : Cursor} {xs ys : List ℕ} → Left T c xs p d ys → run p ≡ wrote [] → Walked T c xs (Next d) ys
 unfolding run
 left-none {d = d} {ys = ys} l q = l .rest (Next d) ys (as-run (sym q) (nothing {c = d} {xs = ys}))

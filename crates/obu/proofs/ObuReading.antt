@@ -8,7 +8,7 @@ use lib.Seq.{take-all}
 use borrow.Author.Tests.{lt-ltb, le-ltb}
 use Rattle.bits.specs.Bits.{bitsOf, from, reached}
 use Rattle.bits.specs.Codec.{Codec, got, stop, nil}
-use Rattle.bits.specs.Answers.{why, value, refused, found, Reads, Form, Said, step}
+use Rattle.bits.specs.Answers.{why, value, refused, found, Reads, Said, step}
 use Rattle.bits.specs.declared.answer.Cursor.{Cursor}
 use Rattle.bits.specs.declared.answer.Refusal.{Refusal}
 use Rattle.bits.specs.declared.answer.Refusal.the-variants.{Long}
@@ -65,15 +65,3 @@ module _ (t : ℕ) {A : Type 0} (p : Codec A) (xs : List ℕ) (few : length xs �
           all-read {end} k =
               let r = is {a = nil} {q = end} T k .finds in
               opened ∙ rw (is {a = h} {q = c} head e .finds, is {a = nil} {q = d} Z f .finds, P .finds, r) (ap (got (h, v)) (tail-end _ r))
-
-        -- the same, where a function answers the payload by an enum of the form w
-        module _ {G : Type 0} {w : Form G A} {k : G} (P : Said w (p .dec) xs d k) where
-          pub refused-payload : {y z : Refusal} → k ≡ w .ref z → y ≡ why (w .view k) → read (obu t p) xs ≡ stop y
-          refused-payload {y} {z} j n = no-payload (is-not {z = z} P j n)
-
-          module _ {v : A} {q : Cursor} (j : k ≡ w .val v q) {u : Step} (T : Said step readTrailing xs q u) where
-            pub refused-tail : {y z : Refusal} → u ≡ S.Refused z → y ≡ why (step .view u) → read (obu t p) xs ≡ stop y
-            refused-tail {y} {z} m n = no-tail (is {a = v} {q = q} P j) T {z = z} m n
-
-            pub accepted-all : {end : Cursor} → u ≡ S.Next end → read (obu t p) xs ≡ got (h, v) []
-            accepted-all {end} m = all-read (is {a = v} {q = q} P j) T {end = end} m
