@@ -3,12 +3,10 @@ use mathlib.Core.Path.{_≡_, refl, sym, ap, _∙_}
 use mathlib.Core.List.{List, [], _∷_}
 use Prim.Native.Nat.{ℕ, zero, suc, _<_, _^_}
 use native.Mathlib.Omega.{arith}
-use lib.ListN.{getD, replicate}
 use lib.IntN.{ℤ}
 use Rattle.bits.specs.Walk.{Walk, run}
 use Rattle.bits.specs.Codec.{Got, got, stop}
 use Rattle.bits.specs.declared.answer.Numbered.{Numbered}
-use Rattle.bits.specs.declared.answer.Refusal.{Refusal}
 use Rattle.obu.specs.declared.answer.Answer as O
 use Rattle.obu.specs.declared.header.ObuHeader.{ObuHeader}
 use Rattle.obu.specs.Delimiter.{temporal-delimiter}
@@ -31,18 +29,17 @@ use Rattle.segmentation.specs.Segmentation as segmentation
 use Rattle.loop_filter.specs.LoopFilter as loop-filter
 use Rattle.cdef.specs.Cdef as cdef
 use Rattle.restoration.specs.Restoration as restoration
+use Rattle.fill.specs.Fills.{at, of, nowhere, _▸_}
 use Rattle.sequence.specs.declared.record.SequenceHeaderObu.{SequenceHeaderObu}
-use Rattle.sequence.specs.Points.{no-point}
 use Rattle.sequence.specs.Sequence.{sequence-header}
 use Rattle.sequence_reader.specs.declared.read.Part.{Part}
-use Rattle.sequence_reader.specs.declared.read.SequenceAnswer.{SequenceAnswer}
 use Rattle.sequence_reader.specs.declared.read.Outcome.{Outcome}
-use Rattle.sequence_reader.specs.declared.read.Outcome.the-variants.{Done, Refused}
-use Rattle.sequence_reader.specs.Reader.{answerFor, Answers}
+use Rattle.sequence_reader.specs.declared.read.Outcome.the-variants.{Done}
+use Rattle.sequence_reader.specs.Layouts.{header-of, record-of}
+use Rattle.sequence_reader.specs.Reader.{Answer, answerFor, Answers}
 use Rattle.sequence_reader.specs.Payload.{payloadPart}
 use Rattle.sequence_reader.proofs.PayloadParts.{few}
-use Rattle.sequence_reader.proofs.Setting.{reader-sets}
-use Rattle.boundary.specs.Sequence.{header-of, record-of, ZerosBeyond, numbers-of}
+use Rattle.boundary.specs.Groups as groups
 use Rattle.boundary.specs.Parts.{quantization-context, quantization-params, quantization-walk, segmentation-context, segmentation-params, segmentation-walk, loop-filter-context, loop-filter-params, loop-filter-walk, cdef-context, cdef-params, cdef-walk, lr-context, lr-params, lr-walk}
 use Rattle.boundary.specs.Held.{held-quantization, held-segmentation, held-loop-filter}
 use Rattle.boundary.specs.Calls.{answer-of, lent, wrote-obu, wrote-part, outcome-numbers, was-read, part-numbers}
@@ -68,7 +65,8 @@ module _ {out end l : List ℕ} {n : Numbered} (told : l ≡ answer-of n) where
     pub sequence-crosses : (xs : List ℕ) (h : SequenceHeaderObu) → run (sequence-header .enc h) ≡ run (sequence-header .enc (record-of xs)) → obu.Writes (sequence-header .enc h) out r end → lent l end ≡ wrote-obu (sequence-header .enc (record-of xs)) out
     sequence-crosses xs h e w = obu-crosses _ e w is told
 
-    pub delimiter-crosses : (xs : List ℕ) {h : ObuHeader} → h ≡ header-of xs → obu.Writes (temporal-delimiter h) out r end → lent l end ≡ wrote-obu (temporal-delimiter (header-of xs)) out
+    pub delimiter-crosses : (xs : List ℕ) {h : ObuHeader} → h ≡ groups.header-of xs → obu.Writes (temporal-delimiter h) out r end → lent l end ≡ wrote-obu (temporal-delimiter (header-of xs)) out
+    unfolding header-of at of nowhere _▸_
     delimiter-crosses xs e w = obu-crosses _ (ap (λ (h : ObuHeader). run (temporal-delimiter h)) e) w is told
 
   module _ {r : P.Answer} (is : n ≡ part.answered r) {place : ℕ} (xs : List ℤ) where
@@ -90,38 +88,15 @@ module _ {out end l : List ℕ} {n : Numbered} (told : l ≡ answer-of n) where
     pub lr-crosses : {p : LoopRestorationParams} {k : LoopRestorationContext} → p ≡ lr-params xs → k ≡ lr-context xs → part.Writes (restoration.lr-params k .enc p) place out r end → lent l end ≡ wrote-part (lr-walk xs) place out
     lr-crosses e f w = part-crosses _ (λ i. run (restoration.lr-params (f i) .enc (e i))) w is told
 
--- the reader leaves zeros beyond the count
-all-zeros : (n i : ℕ) → getD (replicate n no-point) i no-point ≡ no-point
-all-zeros zero i = refl
-all-zeros (suc n) zero = refl
-all-zeros (suc n) (suc i) = all-zeros n i
-
-unread : (xs : List ℕ) (g : Got SequenceHeaderObu) → read sequence-header xs ≡ g → ZerosBeyond (answerFor g .«record»)
-unfolding answerFor
-unread xs (got h rest) e = reader-sets xs {r = answerFor (got h rest)} (ap answerFor (sym e)) refl .points .beyond
-unread xs (stop r) e = λ i l. all-zeros 32 i
-
--- the reader's answer; the record's array is stored into only where it accepts
-module _ (xs : List ℕ) {a : SequenceAnswer} (e : Answers xs a) where
-  pub zeros-beyond : ZerosBeyond (a .«record»)
-  zeros-beyond = rw e (unread xs (read sequence-header xs) refl)
-
-  module _ (old : List ℕ) {l : List ℕ} {n : Numbered} (is : n ≡ outcome-numbers (a .outcome)) (told : l ≡ answer-of n) where
-    pub read-crosses : {ns : List ℕ} → a .outcome ≡ Done → ns ≡ numbers-of (a .«record») → lent l ns ≡ was-read (read sequence-header xs) old
-    unfolding answerFor
-    read-crosses d k = rw (told, is, k, e) (go (read sequence-header xs) (rw e at d))
-      where
-        go : (g : Got SequenceHeaderObu) → answerFor g .outcome ≡ Done → lent (answer-of (outcome-numbers (answerFor g .outcome))) (numbers-of (answerFor g .«record»)) ≡ was-read g old
-        go (got h rest) q = refl
-        go (stop r) q = absurd (let n : _≡_ {A = ℕ} 0 1 = cc in omega arith)
-
-    pub refusal-crosses : {z : Refusal} → a .outcome ≡ Refused z → lent l old ≡ was-read (read sequence-header xs) old
-    unfolding answerFor
-    refusal-crosses {z} d = rw (told, is, e) (go (read sequence-header xs) (rw e at d))
-      where
-        go : (g : Got SequenceHeaderObu) → answerFor g .outcome ≡ Refused z → lent (answer-of (outcome-numbers (answerFor g .outcome))) old ≡ was-read g old
-        go (got h rest) q = absurd (let n : _≡_ {A = ℕ} 0 1 = cc in omega arith)
-        go (stop r) q = refl
+-- the reader's answer
+module _ (xs old : List ℕ) {ns l : List ℕ} {o : Outcome} {n : Numbered} (told : l ≡ answer-of n) (is : n ≡ outcome-numbers o) where
+  pub read-crosses : Answers xs old o ns → lent l ns ≡ was-read (read sequence-header xs) old
+  unfolding answerFor
+  read-crosses e = rw (told, is) (ap (λ (a : Answer). lent (answer-of (outcome-numbers (a .outcome))) (a .numbers)) e ∙ go (read sequence-header xs))
+    where
+      go : (g : Got SequenceHeaderObu) → lent (answer-of (outcome-numbers (answerFor g old .outcome))) (answerFor g old .numbers) ≡ was-read g old
+      go (got h rest) = refl
+      go (stop r) = refl
 
 -- the payload's part
 module _ (xs : List ℕ) {p : Part} (e : p ≡ payloadPart xs) where

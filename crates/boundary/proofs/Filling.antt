@@ -29,46 +29,7 @@ module _ {A : Type 0} {m : ℕ} where
   one-more {front} a {i} (begun [] k e) l h = absurd (omega arith)
   one-more {front} a {i} (begun (x ∷ rest) k e) l h = begun rest (rw length-append (omega arith)) (rw e (set-at front x rest a i l ∙ sym (append-assoc front (a ∷ []) rest)))
 
-  -- the next places are stored
-  pub more : {front list : List A} (vs : List A) (i : ℕ) → Begun front m list → length front ≡ i → i + length vs ≤ m → Begun (front ++ vs) m (sets list i vs)
-  more {front} [] i g l h = rw append-nil g
-  more {front} {list} (v ∷ vs) i g l h =
-      let next : length (front ++ v ∷ []) ≡ suc i = rw length-append (omega arith) in
-      rw (← append-assoc front (v ∷ []) vs) (more vs (suc i) (one-more v g l (omega arith)) next (omega arith))
-
--- an array of m places begins with `front`, and the others hold z
-pub data Padded {A : Type 0} (z : A) (front : List A) (m : ℕ) (list : List A) : Type 0 where
-  padded : (k : ℕ) → length front + k ≡ m → list ≡ front ++ replicate k z → Padded z front m list
-
-module _ {A : Type 0} {z : A} {m : ℕ} where
-  pub pad : Padded z [] m (replicate m z)
-  pad = padded m (omega arith) refl
-
-  pub unpad : {front list : List A} → Padded z front m list → Begun front m list
-  unpad (padded k l e) = begun (replicate k z) (rw (length-replicate k z) l) e
-
-  one-over : {front list : List A} (a : A) {i : ℕ} → Padded z front m list → length front ≡ i → i < m → Padded z (front ++ a ∷ []) m (set list i a)
-  one-over {front} a {i} (padded zero k e) l h = absurd (omega arith)
-  one-over {front} a {i} (padded (suc n) k e) l h = padded n (rw length-append (omega arith)) (rw e (set-at front z (replicate n z) a i l ∙ sym (append-assoc front (a ∷ []) (replicate n z))))
-
-  pub over : {front list : List A} (vs : List A) (i : ℕ) → Padded z front m list → length front ≡ i → i + length vs ≤ m → Padded z (front ++ vs) m (sets list i vs)
-  over {front} [] i g l h = rw append-nil g
-  over {front} {list} (v ∷ vs) i g l h =
-      let next : length (front ++ v ∷ []) ≡ suc i = rw length-append (omega arith) in
-      rw (← append-assoc front (v ∷ []) vs) (over vs (suc i) (one-over v g l (omega arith)) next (omega arith))
-
-  -- the next places hold it already
-  pub kept : {front list : List A} (j : ℕ) → Padded z front m list → length front + j ≤ m → Padded z (front ++ replicate j z) m list
-  kept {front} j (padded k l e) h =
-      let n : j + (k - j) ≡ k = omega arith in
-      padded (k - j) (rw (length-append, length-replicate j z) (omega arith)) (e ∙ sym (rw (append-assoc front (replicate j z) (replicate (k - j) z), replicate-append-replicate j (k - j) z, n)))
-
--- a list that is stored in two parts
-pub sets-append : {A : Type 0} (l : List A) (i : ℕ) (vs ws : List A) → sets (sets l i vs) (i + length vs) ws ≡ sets l i (vs ++ ws)
-sets-append l i [] ws = let e : i + 0 ≡ i = omega arith in rw e
-sets-append l i (v ∷ vs) ws = let e : i + suc (length vs) ≡ suc i + length vs = omega arith in rw e (sets-append (set l i v) (suc i) vs ws)
-
-pub length-joined : {A : Type 0} (k n : ℕ) (f : ℕ → List A) → ((i : ℕ) → length (f i) ≡ k) → length (joined n f) ≡ k * n
+length-joined : {A : Type 0} (k n : ℕ) (f : ℕ → List A) → ((i : ℕ) → length (f i) ≡ k) → length (joined n f) ≡ k * n
 unfolding joined
 length-joined k zero f h = omega arith
 length-joined k (suc n) f h = rw (length-append, h n, length-joined k n f h) (omega arith)

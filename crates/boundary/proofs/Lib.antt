@@ -7,5 +7,4 @@ pub mod GivenLoopFilter
 pub mod GivenSequence
 pub mod Filling
 pub mod Records
-pub mod Numbering
 pub mod Crossing

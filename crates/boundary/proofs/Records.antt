@@ -2,11 +2,12 @@
 use mathlib.Core.Path.{_≡_, sym, ap, _∙_}
 use mathlib.Core.List.{List}
 use mathlib.Core.Bool.{Bool}
-use Prim.Native.Nat.{ℕ, _+_, _^_, _<_, _≤_}
+use Prim.Native.Nat.{ℕ, zero, suc, _+_, _*_, _^_, _<_, _≤_}
 use native.Mathlib.Omega.{arith}
 use lib.ListN.{take, getD}
 use lib.Seq.{getD-take}
 use lib.IntN.{ℤ}
+use borrow.Author.Tests.{lt-ltb}
 use Rattle.bits.specs.Walk.{run}
 use Rattle.bits.specs.Codec.{via}
 use Rattle.bits.proofs.Laws.{same-coded}
@@ -33,12 +34,22 @@ use Rattle.cdef.specs.declared.CdefContext.{CdefContext}
 use Rattle.cdef.specs.declared.CdefParams.{CdefParams}
 use Rattle.restoration.specs.declared.LoopRestorationContext.{LoopRestorationContext}
 use Rattle.restoration.specs.declared.LoopRestorationParams.{LoopRestorationParams}
+use Rattle.fill.specs.Fills as layout
+use Rattle.sequence_reader.specs.Layouts as row
+use Rattle.sequence_reader.specs.Layouts.{record-of}
 use Rattle.boundary.specs.Parts.{quantization-context, quantization-params, segmentation-context, segmentation-params, loop-filter-context, loop-filter-params, cdef-context, cdef-params, lr-context, lr-params}
 use Rattle.boundary.specs.Numbers.{at, flag-at, each}
 use Rattle.boundary.specs.Held.{byte, held-model, held-header, held-quantization, held-segmentation, held-loop-filter}
-use Rattle.boundary.specs.Sequence.{general, model, points, frame, ids, tools, choices, hints, filters, grain, header-of, timing-of, model-of, point-of, color-of, record-of, used}
+use Rattle.boundary.specs.Groups.{general, model, points, frame, ids, tools, choices, hints, filters, grain, header-of, timing-of, model-of, point-of, color-of, used}
 use Rattle.boundary.proofs.Filling.{getD-each}
 use Rattle.boundary.proofs.GivenSequence.{header-given}
+
+-- an item of an array that has a place
+place-each : {A M : Type 0} (z : A) (l : ℕ → layout.Layout M A) (n : ℕ) (m : M) (k j i : ℕ) → i < k → j + i < n → getD (layout.each z l k j n .get m) i z ≡ l (j + i) .get m
+unfolding layout.each layout.of layout._▸_
+place-each z l n m zero j i h u = absurd (omega arith)
+place-each z l n m (suc k) j zero h u = let e : j + 0 ≡ j = omega arith in rw (lt-ltb j n (omega arith), e)
+place-each z l n m (suc k) j (suc i) h u = let e : j + suc i ≡ suc j + i = omega arith in place-each z l n m k (suc j) i (omega arith) (omega arith) ∙ rw e
 
 -- the walk of a sequence header looks at no point beyond the count
 walked-unused : (h : SequenceHeaderObu) (ps qs : List OperatingPoint) → ((i : ℕ) → i < 32 → i ≤ h .«operating_points_cnt_minus_1» → getD ps i no-point ≡ getD qs i no-point)
@@ -104,16 +115,18 @@ module _ (xs : List ℕ) where
       → (y ≡ at xs (frame + 3)) × (at xs (frame + 3) < 2 ^ 32)
       → b ≡ byte (at xs hints)
       → run (sequence-header .enc (made h t m ps k w v x y b)) ≡ run (sequence-header .enc (record-of xs))
-  unfolding record-of
+  unfolding record-of layout.of layout.at layout._▸_ layout._▹_ layout.nowhere
   record-given ps h t m e k w v x y b =
       (λ i. run (sequence-header .enc (made (h i) (t i) (m i) ps (k i) (w i) (v i) (x .0 i) (y .0 i) (b i)))) ∙
-      walked-unused (held-header (record-of xs)) ps (each 32 (point-of xs)) same ∙
+      walked-unused (held-header (record-of xs)) ps (record-of xs .«operating_points») same ∙
       header-given (record-of xs) (x .1) (y .1)
     where
-      same : (i : ℕ) → i < 32 → i ≤ at xs 19 → getD ps i no-point ≡ getD (each 32 (point-of xs)) i no-point
+      same : (i : ℕ) → i < 32 → i ≤ at xs 19 → getD ps i no-point ≡ getD (row.operating-points 20 (at xs 19 + 1) .get xs) i no-point
       same i l u =
           let n : i < used (at xs 19) = omega arith in
-          sym (getD-take (used (at xs 19)) ps i no-point n) ∙ ap (λ (l : List OperatingPoint). getD l i no-point) e ∙ getD-each (point-of xs) (used (at xs 19)) i no-point n ∙ sym (getD-each (point-of xs) 32 i no-point l)
+          let e₀ : 0 + i ≡ i = omega arith in
+          let p : getD (row.operating-points 20 (at xs 19 + 1) .get xs) i no-point ≡ point-of xs i = rw e₀ at (place-each no-point (λ i. row.operating-point (20 + 9 * i)) (at xs 19 + 1) xs 32 0 i l (omega arith)) in
+          sym (getD-take (used (at xs 19)) ps i no-point n) ∙ ap (λ (l : List OperatingPoint). getD l i no-point) e ∙ getD-each (point-of xs) (used (at xs 19)) i no-point n ∙ sym p
 
 module _ (xs : List ℤ) where
   pub quantization-context-is : {a : ℕ} {b : Bool}

@@ -8,10 +8,10 @@ use Rattle.bits.specs.declared.answer.Numbered.{Numbered}
 use Rattle.obu.specs.Writer as obu
 use Rattle.parts.specs.Written as part
 use Rattle.sequence.specs.declared.record.SequenceHeaderObu.{SequenceHeaderObu}
+use Rattle.sequence_reader.specs.Layouts.{numbers-of}
 use Rattle.sequence_reader.specs.declared.read.Part.{Part}
 use Rattle.sequence_reader.specs.declared.read.Outcome.{Outcome}
 use Rattle.sequence_reader.specs.declared.read.Outcome.the-variants.{Done, Refused}
-use Rattle.boundary.specs.Sequence.{numbers-of}
 
 -- an answer: its number and its two values
 abbrev pub answer-of : Numbered → List ℕ

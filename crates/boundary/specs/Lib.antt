@@ -1,5 +1,5 @@
 pub mod Numbers
 pub mod Held
-pub mod Sequence
+pub mod Groups
 pub mod Parts
 pub mod Calls

@@ -5,19 +5,15 @@ use Prim.Native.Nat.{ℕ, zero, suc}
 use lib.Dec.{eqb}
 use lib.ListN.{getD}
 use lib.IntN.{ℤ, pos, negsuc}
-use mir.Val.{boolByte}
 use Rattle.parts.specs.Codes.{same}
 
 -- the number at a place
 abbrev pub at : List ℕ → ℕ → ℕ
 at xs i = getD xs i 0
 
--- any number but 0 sets a flag; a flag crosses back as 1 or 0, which is its byte
+-- any number but 0 sets a flag
 abbrev pub flag-at : List ℕ → ℕ → Bool
 flag-at xs i = not (eqb (at xs i) 0)
-
-abbrev pub of-flag : Bool → ℕ
-of-flag = boolByte
 
 -- Where numbers have a sign: the number itself; a flag; and a field without sign, which takes a number below 0 as the largest number, that no coded
 -- field holds either.

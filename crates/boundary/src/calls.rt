@@ -10,7 +10,6 @@ use crate::restoration_record::lr_context;
 use crate::restoration_record::lr_params;
 use crate::segmentation_record::segmentation_context;
 use crate::segmentation_record::segmentation_params;
-use crate::sequence_numbers::sequence_numbers;
 use crate::sequence_record::sequence_header;
 use bits::answer::Numbered;
 use cdef::write_cdef_params;
@@ -30,8 +29,8 @@ ghost use mathlib.Core.Path.{_≡_};
 ghost use Rattle.obu.specs.Delimiter.{temporal-delimiter, IsDelimiter, Tells};
 ghost use Rattle.obu.specs.Demand3.{read};
 ghost use Rattle.sequence.specs.Sequence.{sequence-header};
+ghost use Rattle.sequence_reader.specs.Layouts.{header-of, record-of};
 ghost use Rattle.sequence_reader.specs.Payload.{payloadPart};
-ghost use Rattle.boundary.specs.Sequence.{header-of, record-of};
 ghost use Rattle.boundary.specs.Parts.{quantization-walk, segmentation-walk, loop-filter-walk, cdef-walk, lr-walk};
 ghost use Rattle.boundary.specs.Calls.{answer-of, outcome-numbers, part-numbers, lent, wrote-obu, wrote-part, was-read};
 
@@ -165,14 +164,8 @@ pub extern "C" fn friscurella_read_sequence_header(
 )
     ensures { λ _. ⌜ lent (now (answer .exit)) (now («record» .exit)) ≡ was-read (read sequence-header (now (input .entry))) (now («record» .entry)) ⌝ }
 {
-    let a = read_sequence_header(input);
-    let o = a.outcome;
+    let o = read_sequence_header(input, record);
     *answer = answer_of(outcome_numbers(o));
-    let Outcome::Done = o else {
-        return;
-    };
-    let h = a.record;
-    sequence_numbers(record, h);
 }
 
 // The payload's first byte and its length.

@@ -2,7 +2,7 @@
 use obu::header::ObuHeader;
 ghost use mathlib.Core.Path.{_≡_};
 ghost use mathlib.Core.List.{[], _∷_};
-ghost use Rattle.boundary.specs.Sequence.{header-of};
+ghost use Rattle.boundary.specs.Groups.{header-of};
 
 pub fn obu_header(
     obu_type: u32,

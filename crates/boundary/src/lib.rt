@@ -8,5 +8,4 @@ mod points; // points.rt: the operating points of 5.5.1
 mod quantization_record; // quantization_record.rt: the record of 5.9.12
 mod restoration_record; // restoration_record.rt: the record of 5.9.20
 mod segmentation_record; // segmentation_record.rt: the record of 5.9.14
-mod sequence_numbers; // sequence_numbers.rt: the numbers of the sequence header's record
 mod sequence_record; // sequence_record.rt: the record of 5.5.1

@@ -11,12 +11,6 @@ pub fn byte(n: u32) -> u8
     if n < 255 { n as u8 } else { 255 }
 }
 
-pub fn wide(n: u8) -> u32
-    ensures { λ r. ⌜ r ≡ n ⌝ }
-{
-    n as u32
-}
-
 // A number into a field of 32 bits, which holds it.
 pub fn word(n: u32) -> u32
     ensures { λ r. ⌜ (r ≡ n) × (n < 2 ^ 32) ⌝ }

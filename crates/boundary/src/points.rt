@@ -1,18 +1,19 @@
 // The operating points: nine numbers each.
 use sequence::record::NO_POINT;
 use sequence::record::OperatingPoint;
+use sequence_reader::place;
 ghost use mathlib.Core.Path.{_≡_};
 ghost use Prim.Native.Nat.{_<_};
 ghost use lib.ListN.{take};
 ghost use Rattle.boundary.specs.Numbers.{at, each};
-ghost use Rattle.boundary.specs.Sequence.{point-of, used};
+ghost use Rattle.boundary.specs.Groups.{point-of, used};
 
 // Point i.
 fn operating_point(n: &[u32; 347], i: usize) -> OperatingPoint
     requires { ⌜ i < 32 ⌝ }
     ensures { λ r. ⌜ r ≡ point-of (now (n .entry)) i ⌝ }
 {
-    let at = 20 + 9 * i;
+    let at = place::OPERATING_POINTS + 9 * i;
     OperatingPoint {
         idc: n[at],
         seq_level_idx: n[at + 1],
@@ -38,7 +39,7 @@ pub fn operating_points(n: &[u32; 347]) -> [OperatingPoint; 32]
     ensures { λ r. ⌜ take (used (at (now (n .entry)) 19)) r ≡ each (used (at (now (n .entry)) 19)) (point-of (now (n .entry))) ⌝ }
 {
     let mut points = [NO_POINT; 32];
-    for i in 0..used(n[19]) {
+    for i in 0..used(n[place::OPERATING_POINTS_CNT_MINUS_1]) {
         points[i] = operating_point(n, i);
     }
     points

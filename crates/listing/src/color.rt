@@ -3,7 +3,7 @@ use crate::row::f_if;
 use crate::row::flag;
 use crate::row::flag_if;
 use bits::answer::Cursor;
-use sequence::record::ColorConfig;
+use sequence_reader::place;
 
 fn color_description(s: &[u8], c: Cursor, present: bool) -> Cursor {
     let c = flag(s, c, b"color_description_present_flag");
@@ -13,34 +13,42 @@ fn color_description(s: &[u8], c: Cursor, present: bool) -> Cursor {
 }
 
 // Whether the planes are those of sRGB: nothing of their sampling is coded, nor the range.
-fn srgb(k: ColorConfig) -> bool {
-    if k.mono_chrome {
+fn srgb(mono: bool, primaries: u32, transfer: u32, matrix: u32) -> bool {
+    if mono {
         return false;
     }
-    k.color_primaries == 1 && k.transfer_characteristics == 13 && k.matrix_coefficients == 0
+    primaries == 1 && transfer == 13 && matrix == 0
 }
 
 // At twelve bits (profile 2) the sampling is coded, but for one plane and sRGB.
-fn samples(s: &[u8], c: Cursor, k: ColorConfig, free: bool) -> Cursor {
-    let x = k.subsampling_x;
-    let y = k.subsampling_y;
-    let c = flag_if(s, c, free && k.twelve_bit, b"subsampling_x", x);
-    let c = flag_if(s, c, free && k.twelve_bit && x, b"subsampling_y", y);
+fn samples(s: &[u8], c: Cursor, twelve: bool, x: bool, y: bool, free: bool) -> Cursor {
+    let c = flag_if(s, c, free && twelve, b"subsampling_x", x);
+    let c = flag_if(s, c, free && twelve && x, b"subsampling_y", y);
     f_if(s, c, free && x && y, 2, b"chroma_sample_position", 0)
 }
 
-fn planes(s: &[u8], c: Cursor, k: ColorConfig) -> Cursor {
-    let is_srgb = srgb(k);
-    let free = !is_srgb && !k.mono_chrome;
+fn planes(s: &[u8], c: Cursor, n: &[u32; 347]) -> Cursor {
+    let mono = n[place::MONO_CHROME] != 0;
+    let is_srgb = srgb(
+        mono,
+        n[place::COLOR_PRIMARIES],
+        n[place::TRANSFER_CHARACTERISTICS],
+        n[place::MATRIX_COEFFICIENTS],
+    );
     let c = flag_if(s, c, !is_srgb, b"color_range", true);
-    let c = samples(s, c, k, free);
-    flag_if(s, c, !k.mono_chrome, b"separate_uv_delta_q", false)
+    let twelve = n[place::TWELVE_BIT] != 0;
+    let x = n[place::SUBSAMPLING_X] != 0;
+    let y = n[place::SUBSAMPLING_Y] != 0;
+    let c = samples(s, c, twelve, x, y, !is_srgb && !mono);
+    flag_if(s, c, !mono, b"separate_uv_delta_q", false)
 }
 
-pub fn color_config(s: &[u8], c: Cursor, profile: u32, k: ColorConfig) -> Cursor {
+pub fn color_config(s: &[u8], c: Cursor, n: &[u32; 347]) -> Cursor {
+    let profile = n[place::SEQ_PROFILE];
+    let high = n[place::HIGH_BITDEPTH] != 0;
     let c = flag(s, c, b"high_bitdepth");
-    let c = flag_if(s, c, profile == 2 && k.high_bitdepth, b"twelve_bit", false);
+    let c = flag_if(s, c, profile == 2 && high, b"twelve_bit", false);
     let c = flag_if(s, c, profile != 1, b"mono_chrome", false);
-    let c = color_description(s, c, k.color_description_present_flag);
-    planes(s, c, k)
+    let c = color_description(s, c, n[place::COLOR_DESCRIPTION_PRESENT_FLAG] != 0);
+    planes(s, c, n)
 }

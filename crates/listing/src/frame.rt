@@ -3,21 +3,20 @@ use crate::row::f;
 use crate::row::flag_if;
 use bits::answer::Cursor;
 
-pub fn frame_size(s: &[u8], c: Cursor, width_bits_minus_1: u8, height_bits_minus_1: u8) -> Cursor {
+// As many bits as the number says, and one more, at most 32.
+pub fn width(bits_minus_1: u32) -> u32 {
+    if bits_minus_1 < 32 {
+        bits_minus_1 + 1
+    } else {
+        32
+    }
+}
+
+pub fn frame_size(s: &[u8], c: Cursor, width_bits: u32, height_bits: u32) -> Cursor {
     let c = f(s, c, 4, b"frame_width_bits_minus_1");
     let c = f(s, c, 4, b"frame_height_bits_minus_1");
-    let c = f(
-        s,
-        c,
-        width_bits_minus_1 as u32 + 1,
-        b"max_frame_width_minus_1",
-    );
-    f(
-        s,
-        c,
-        height_bits_minus_1 as u32 + 1,
-        b"max_frame_height_minus_1",
-    )
+    let c = f(s, c, width(width_bits), b"max_frame_width_minus_1");
+    f(s, c, width(height_bits), b"max_frame_height_minus_1")
 }
 
 pub fn frame_ids(s: &[u8], c: Cursor, reduced: bool, present: bool) -> Cursor {

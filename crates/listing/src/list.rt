@@ -18,7 +18,7 @@ use crate::words::refusal;
 use bits::answer::Cursor;
 use bits::answer::Step;
 use obu::read::GotHeader;
-use sequence::record::SequenceHeaderObu;
+use sequence_reader::place;
 use sequence_reader::read::Outcome;
 use sequence_reader::read::read_sequence_header;
 
@@ -27,61 +27,50 @@ fn start() -> Cursor {
 }
 
 // The timing and the operating points.
-fn general(s: &[u8], c: Cursor, r: SequenceHeaderObu) -> Cursor {
-    if r.reduced_still_picture_header {
+fn general(s: &[u8], c: Cursor, n: &[u32; 347]) -> Cursor {
+    if n[place::REDUCED_STILL_PICTURE_HEADER] != 0 {
         return reduced_points(s, c);
     }
-    let t = r.timing_info;
-    let d = r.decoder_model_info;
-    let has_model = r.decoder_model_info_present_flag;
     let c = timing(
         s,
         c,
-        r.timing_info_present_flag,
-        t.equal_picture_interval,
-        has_model,
+        n[place::TIMING_INFO_PRESENT_FLAG] != 0,
+        n[place::EQUAL_PICTURE_INTERVAL] != 0,
+        n[place::DECODER_MODEL_INFO_PRESENT_FLAG] != 0,
     );
-    let n = d.buffer_delay_length_minus_1 as u32 + 1;
-    let operating_points = r.operating_points;
-    points(
-        s,
-        c,
-        operating_points,
-        r.operating_points_cnt_minus_1,
-        has_model,
-        n,
-        r.initial_display_delay_present_flag,
-    )
+    points(s, c, n)
 }
 
 // 5.5.1; the conditions of its fields are those of the record that was read.
-fn sequence_header_obu(s: &[u8], c: Cursor, r: SequenceHeaderObu) -> Cursor {
-    let reduced = r.reduced_still_picture_header;
-    let color = r.color_config;
+fn sequence_header_obu(s: &[u8], c: Cursor, n: &[u32; 347]) -> Cursor {
     let c = f(s, c, 3, b"seq_profile");
     let c = flag(s, c, b"still_picture");
     let c = flag(s, c, b"reduced_still_picture_header");
-    let c = general(s, c, r);
+    let c = general(s, c, n);
     let c = frame_size(
         s,
         c,
-        r.frame_width_bits_minus_1,
-        r.frame_height_bits_minus_1,
+        n[place::FRAME_WIDTH_BITS_MINUS_1],
+        n[place::FRAME_HEIGHT_BITS_MINUS_1],
     );
-    let c = frame_ids(s, c, reduced, r.frame_id_numbers_present_flag);
+    let c = frame_ids(
+        s,
+        c,
+        n[place::REDUCED_STILL_PICTURE_HEADER] != 0,
+        n[place::FRAME_ID_NUMBERS_PRESENT_FLAG] != 0,
+    );
     let c = block_tools(s, c);
-    let c = inter_tools(s, c, r);
+    let c = inter_tools(s, c, n);
     let c = filter_tools(s, c);
-    let c = color_config(s, c, r.seq_profile, color);
+    let c = color_config(s, c, n);
     flag(s, c, b"film_grain_params_present")
 }
 
-fn sequence_header(s: &[u8], r: SequenceHeaderObu) {
-    let h = r.obu_header;
+fn sequence_header(s: &[u8], n: &[u32; 347]) {
     heading();
-    let c = obu_header(s, start(), h.extension_flag);
-    let c = obu_size(s, c, h.has_size_field);
-    let c = sequence_header_obu(s, c, r);
+    let c = obu_header(s, start(), n[place::EXTENSION_FLAG] != 0);
+    let c = obu_size(s, c, n[place::HAS_SIZE_FIELD] != 0);
+    let c = sequence_header_obu(s, c, n);
     trailing_bits(s, c);
 }
 
@@ -109,10 +98,10 @@ pub fn list(input: &[u8]) {
     if temporal_delimiter(input) {
         return;
     }
-    let a = read_sequence_header(input);
-    let o = a.outcome;
+    let mut n = [0u32; 347];
+    let o = read_sequence_header(input, &mut n);
     match o {
-        Outcome::Done => sequence_header(input, a.record),
+        Outcome::Done => sequence_header(input, &n),
         Outcome::Refused(r) => refusal(r),
     }
 }

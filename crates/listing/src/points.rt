@@ -1,4 +1,5 @@
 // The operating points of 5.5.1, and 5.5.5 operating_parameters_info.
+use crate::frame::width;
 use crate::row::Index;
 use crate::row::f;
 use crate::row::f_at;
@@ -6,7 +7,7 @@ use crate::row::flag;
 use crate::row::inferred;
 use crate::row::inferred_at;
 use bits::answer::Cursor;
-use sequence::record::OperatingPoint;
+use sequence_reader::place;
 
 fn operating_parameters_info(s: &[u8], c: Cursor, n: u32, i: usize) -> Cursor {
     let c = f_at(s, c, n, b"decoder_buffer_delay", Index::At(i));
@@ -54,57 +55,43 @@ fn point_delay(s: &[u8], c: Cursor, has_delay: bool, present: bool, i: usize) ->
 fn operating_point(
     s: &[u8],
     c: Cursor,
-    p: OperatingPoint,
+    level: u32,
     has_model: bool,
+    model_present: bool,
     n: u32,
     has_delay: bool,
+    delay_present: bool,
     i: usize,
 ) -> Cursor {
     let c = f_at(s, c, 12, b"operating_point_idc", Index::At(i));
     let c = f_at(s, c, 5, b"seq_level_idx", Index::At(i));
-    let c = seq_tier(s, c, p.seq_level_idx, i);
-    let c = point_model(s, c, has_model, p.decoder_model_present_for_this_op, n, i);
-    point_delay(
-        s,
-        c,
-        has_delay,
-        p.initial_display_delay_present_for_this_op,
-        i,
-    )
+    let c = seq_tier(s, c, level, i);
+    let c = point_model(s, c, has_model, model_present, n, i);
+    point_delay(s, c, has_delay, delay_present, i)
 }
 
 // The points up to the one with the number `last`.
-fn operating_points(
-    s: &[u8],
-    c: Cursor,
-    list: [OperatingPoint; 32],
-    last: u32,
-    has_model: bool,
-    n: u32,
-    has_delay: bool,
-) -> Cursor {
-    let mut at = c;
+fn operating_points(s: &[u8], c: Cursor, last: u32, n: &[u32; 347]) -> Cursor {
+    let has_model = n[place::DECODER_MODEL_INFO_PRESENT_FLAG] != 0;
+    let k = width(n[place::BUFFER_DELAY_LENGTH_MINUS_1]);
+    let has_delay = n[place::INITIAL_DISPLAY_DELAY_PRESENT_FLAG] != 0;
+    let mut p = c;
     for i in 0..32 {
         if i <= last as usize {
-            at = operating_point(s, at, list[i], has_model, n, has_delay, i);
+            let at = place::OPERATING_POINTS + 9 * i;
+            let model = n[at + 3] != 0;
+            let delay = n[at + 7] != 0;
+            p = operating_point(s, p, n[at + 1], has_model, model, k, has_delay, delay, i);
         }
     }
-    at
+    p
 }
 
 // Of the full header.
-pub fn points(
-    s: &[u8],
-    c: Cursor,
-    list: [OperatingPoint; 32],
-    last: u32,
-    has_model: bool,
-    n: u32,
-    has_delay: bool,
-) -> Cursor {
+pub fn points(s: &[u8], c: Cursor, n: &[u32; 347]) -> Cursor {
     let c = flag(s, c, b"initial_display_delay_present_flag");
     let c = f(s, c, 5, b"operating_points_cnt_minus_1");
-    operating_points(s, c, list, last, has_model, n, has_delay)
+    operating_points(s, c, n[place::OPERATING_POINTS_CNT_MINUS_1], n)
 }
 
 // With the reduced header only the level of one point is coded.

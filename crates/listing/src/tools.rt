@@ -5,7 +5,7 @@ use crate::row::flag;
 use crate::row::flag_if;
 use crate::row::inferred;
 use bits::answer::Cursor;
-use sequence::record::SequenceHeaderObu;
+use sequence_reader::place;
 
 pub fn block_tools(s: &[u8], c: Cursor) -> Cursor {
     let c = flag(s, c, b"use_128x128_superblock");
@@ -61,20 +61,21 @@ fn reduced_tools() {
     inferred(b"OrderHintBits", 0);
 }
 
-pub fn inter_tools(s: &[u8], c: Cursor, r: SequenceHeaderObu) -> Cursor {
-    if r.reduced_still_picture_header {
+pub fn inter_tools(s: &[u8], c: Cursor, n: &[u32; 347]) -> Cursor {
+    if n[place::REDUCED_STILL_PICTURE_HEADER] != 0 {
         reduced_tools();
         return c;
     }
-    let c = full_tools(s, c, r.enable_order_hint);
-    let c = screen_content_tools(s, c, r.seq_choose_screen_content_tools);
+    let order_hint = n[place::ENABLE_ORDER_HINT] != 0;
+    let c = full_tools(s, c, order_hint);
+    let c = screen_content_tools(s, c, n[place::SEQ_CHOOSE_SCREEN_CONTENT_TOOLS] != 0);
     let c = integer_mv(
         s,
         c,
-        r.seq_force_screen_content_tools,
-        r.seq_choose_integer_mv,
+        n[place::SEQ_FORCE_SCREEN_CONTENT_TOOLS],
+        n[place::SEQ_CHOOSE_INTEGER_MV] != 0,
     );
-    hint_bits(s, c, r.enable_order_hint, r.order_hint_bits)
+    hint_bits(s, c, order_hint, n[place::ORDER_HINT_BITS])
 }
 
 pub fn filter_tools(s: &[u8], c: Cursor) -> Cursor {

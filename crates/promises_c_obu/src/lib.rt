@@ -4,8 +4,8 @@ ghost use mathlib.Core.Path.{_≡_};
 ghost use Rattle.obu.specs.Delimiter.{temporal-delimiter, IsDelimiter, Tells};
 ghost use Rattle.obu.specs.Demand3.{read};
 ghost use Rattle.sequence.specs.Sequence.{sequence-header};
+ghost use Rattle.sequence_reader.specs.Layouts.{header-of, record-of};
 ghost use Rattle.sequence_reader.specs.Payload.{payloadPart};
-ghost use Rattle.boundary.specs.Sequence.{header-of, record-of};
 ghost use Rattle.boundary.specs.Calls.{lent, wrote-obu, was-read, part-numbers};
 
 pub fn friscurella_write_sequence_header(record: &[u32; 347], out: &mut [u8], answer: &mut [u32; 3])

@@ -3,8 +3,8 @@
 use obu::answer::Answer;
 use obu::header::ObuHeader;
 use sequence::record::SequenceHeaderObu;
+use sequence_reader::read::Outcome;
 use sequence_reader::read::Part;
-use sequence_reader::read::SequenceAnswer;
 ghost use mathlib.Core.Path.{_≡_};
 ghost use Rattle.obu.specs.Writer.{Writes};
 ghost use Rattle.obu.specs.Delimiter.{temporal-delimiter, IsDelimiter, Tells};
@@ -30,10 +30,10 @@ pub fn is_temporal_delimiter(input: &[u8]) -> bool
     obu::delimiter::is_temporal_delimiter(input)
 }
 
-pub fn read_sequence_header(input: &[u8]) -> SequenceAnswer
-    ensures { λ r. ⌜ Answers (now (input .entry)) r ⌝ }
+pub fn read_sequence_header(input: &[u8], numbers: &mut [u32; 347]) -> Outcome
+    ensures { λ r. ⌜ Answers (now (input .entry)) (now (numbers .entry)) r (now (numbers .exit)) ⌝ }
 {
-    sequence_reader::read::read_sequence_header(input)
+    sequence_reader::read::read_sequence_header(input, numbers)
 }
 
 pub fn payload_part(input: &[u8]) -> Part

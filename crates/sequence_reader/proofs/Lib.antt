@@ -1,11 +1,9 @@
-pub mod Zeros
-pub mod FieldReading
-pub mod ToolReading
-pub mod ArrayReading
-pub mod BesideReading
-pub mod ClosingReading
-pub mod PointReading
-pub mod SequenceReading
+pub mod Choosing
+pub mod Pointing
+pub mod Beginning
+pub mod Sizing
+pub mod Coloring
+pub mod Profiles
 pub mod Answering
 pub mod PayloadParts
 pub mod Demand
@@ -14,3 +12,4 @@ pub mod Found
 pub mod PointSetting
 pub mod ToolSetting
 pub mod Setting
+pub mod Numbering

@@ -1,5 +1,5 @@
 -- Where the payload begins, and the part that is handed back.
-use mathlib.Core.Path.{_≡_, refl, sym, ap, _∙_}
+use mathlib.Core.Path.{_≡_, sym, ap, _∙_}
 use mathlib.Core.List.{List}
 use mathlib.Core.Logic.{⊎-elim}
 use Prim.Native.Nat.{ℕ, _+_, _-_, _/_, _^_, _<_, _≤_}
@@ -26,13 +26,12 @@ use Rattle.obu.specs.Frame.{readSize}
 use Rattle.obu.specs.Demand3.{read}
 use Rattle.obu.proofs.Writing.{origin}
 use Rattle.obu.proofs.ObuReading.{read-long}
-use Rattle.sequence.specs.declared.record.SequenceHeaderObu.{SequenceHeaderObu}
 use Rattle.sequence.specs.Sequence.{sequence-header}
 use Rattle.sequence_reader.specs.declared.read.Part.{Part}
-use Rattle.sequence_reader.specs.declared.read.SequenceAnswer.{SequenceAnswer}
 use Rattle.sequence_reader.specs.declared.read.Outcome.{Outcome}
 use Rattle.sequence_reader.specs.declared.read.Outcome.the-variants.{Done, Refused}
-use Rattle.sequence_reader.specs.Reader.{answerFor}
+use Rattle.sequence_reader.specs.Reader.{Holds}
+use Rattle.sequence_reader.proofs.Answering.{was-held, not-held}
 use Rattle.sequence_reader.specs.Payload.{behind, partFor, payloadPart, part, Hands, hands}
 
 none : (n : ℕ) → n ≡ n - 0 / 8
@@ -62,25 +61,14 @@ behind-within xs = omega arith
 pub behind-inside : (xs : List ℕ) {n : ℕ} → n ≡ behind xs → n ≤ length xs
 behind-inside xs e = rw e (behind-within xs)
 
-module _ (xs : List ℕ) {a : SequenceAnswer} (e : a ≡ answerFor (read sequence-header xs)) where
-  told : {o : Outcome} → a .outcome ≡ o → answerFor (read sequence-header xs) .outcome ≡ o
-  told h = sym (ap (λ (x : SequenceAnswer). x .outcome) e) ∙ h
+module _ (xs : List ℕ) {ns ms : List ℕ} {o : Outcome} (i : Holds xs ns o ms) where
+  pub part-none : {z : Refusal} → o ≡ Refused z → record { place = 0; size = 0 } ≡ payloadPart xs
+  unfolding payloadPart
+  part-none h = rw (not-held i h)
 
-  pub part-none : {z : Refusal} → a .outcome ≡ Refused z → record { place = 0; size = 0 } ≡ payloadPart xs
-  unfolding payloadPart answerFor
-  part-none {z} h = go (read sequence-header xs) (told h)
-    where
-      go : (g : Got SequenceHeaderObu) → answerFor g .outcome ≡ Refused z → record { place = 0; size = 0 } ≡ partFor g xs
-      go (got v rest) q = absurd (let n : _≡_ {A = ℕ} 0 1 = cc in omega arith)
-      go (stop r) q = refl
-
-  pub part-some : {n : ℕ} → a .outcome ≡ Done → n ≡ behind xs → record { place = n; size = length xs - n } ≡ payloadPart xs
-  unfolding payloadPart answerFor
-  part-some {n} h k = rw k (go (read sequence-header xs) (told h))
-    where
-      go : (g : Got SequenceHeaderObu) → answerFor g .outcome ≡ Done → record { place = behind xs; size = length xs - behind xs } ≡ partFor g xs
-      go (got v rest) q = refl
-      go (stop r) q = absurd (let n : _≡_ {A = ℕ} 0 1 = cc in omega arith)
+  pub part-some : {n : ℕ} → o ≡ Done → n ≡ behind xs → record { place = n; size = length xs - n } ≡ payloadPart xs
+  unfolding payloadPart
+  part-some h k = rw (k, was-held i h .reads)
 
 -- the part lies in the input, which has at most 65,536 bytes where there is one
 for-within : {A : Type 0} (g : Got A) (xs : List ℕ) → partFor g xs .place + partFor g xs .size ≤ length xs

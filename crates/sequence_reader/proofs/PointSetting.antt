@@ -13,13 +13,12 @@ use Rattle.sequence.specs.declared.record.OperatingPoint.{OperatingPoint}
 use Rattle.sequence.specs.declared.record.SequenceHeaderObu.{SequenceHeaderObu}
 use Rattle.sequence.specs.declared.group.Timing.{Timing}
 use Rattle.sequence.specs.declared.group.PointDelay.{PointDelay}
-use Rattle.sequence.specs.Fields.{timing-in, timing-of, PointRestTable, points-of, general-out, frame-ids-of}
+use Rattle.sequence.specs.Fields.{timing-in, timing-of, PointRestTable, point-rest-out, points-of, general-out, frame-ids-of}
 use Rattle.sequence.specs.Optional.{flag-if}
 use Rattle.sequence.specs.Timing.{ticks-per-picture, timing-info, no-timing-info, no-decoder-model-info, timing-info-if, decoder-model-info-if, timing, reduced-timing}
 use Rattle.sequence.specs.Points.{point-model, point-delay, point-rest, operating-point, no-point, operating-points, points, reduced-delay, reduced-point-rest, reduced-point, reduced-points}
 use Rattle.sequence.specs.Frame.{frame-ids}
 use Rattle.sequence.specs.Sequence.{full-general, reduced-general, general}
-use Rattle.sequence_reader.proofs.PointReading.{no-rest}
 use Rattle.sequence_reader.proofs.Sets.{HeaderSets, TimingSets, PointSets, PointsSets, FrameIdsSets}
 use Rattle.sequence_reader.proofs.Found.{Found, first, second, struct, chosen, unchosen, is-absent, is-inferred, is-inferred-flag, uncoded, uncoded-flag, never, by-test, places-set, beyond-set, each-set}
 
@@ -69,7 +68,7 @@ unfolding point-delay
 delay-set true i s = (λ e. never e refl, λ e. is-absent (unchosen _ _ _ (second _ _ (chosen _ _ _ (struct _ _ _ (λ _. refl) s) refl)) e))
 delay-set false i s = let z = is-absent (unchosen _ _ _ (struct _ _ _ (λ _. refl) s) refl) in (λ _. ap (λ p. p .0) z, λ _. ap (λ p. p .1) z)
 
-reduced-rest : {x : PointRestTable} → Found reduced-point-rest x → x ≡ no-rest
+reduced-rest : {x : PointRestTable} → Found reduced-point-rest x → x ≡ point-rest-out no-point
 unfolding reduced-point-rest point-model reduced-delay flag-if via _▷_ choose select absent inferredFlag
 reduced-rest s = sym (got-value (s .finds))
 

@@ -1,5 +1,5 @@
 -- What the reader sets, of the whole record: `reader-sets` says it of what the public call answers.
-use mathlib.Core.Path.{_≡_, refl, sym, ap, subst, _∙_}
+use mathlib.Core.Path.{_≡_, refl, subst}
 use mathlib.Core.List.{List}
 use Prim.Native.Nat.{ℕ}
 use lib.ListN.{length}
@@ -15,10 +15,11 @@ use Rattle.obu.specs.Demand3.{read}
 use Rattle.sequence.specs.declared.record.SequenceHeaderObu.{SequenceHeaderObu}
 use Rattle.sequence.specs.Fields.{sequence-out}
 use Rattle.sequence.specs.Sequence.{grain, tools, body, sequence-header-obu, sequence-header}
-use Rattle.sequence_reader.specs.declared.read.SequenceAnswer.{SequenceAnswer}
+use Rattle.sequence_reader.specs.declared.read.Outcome.{Outcome}
 use Rattle.sequence_reader.specs.declared.read.Outcome.the-variants.{Done}
+use Rattle.sequence_reader.specs.Layouts.{numbers-of}
 use Rattle.sequence_reader.specs.Reader.{Answers}
-use Rattle.sequence_reader.proofs.Demand.{was-read}
+use Rattle.sequence_reader.proofs.Demand.{accepted}
 use Rattle.sequence_reader.proofs.Sets.{Sets}
 use Rattle.sequence_reader.proofs.Found.{Found, first, second, struct, by-test}
 use Rattle.sequence_reader.proofs.PointSetting.{header-sets, general-sets, frame-ids-sets}
@@ -57,10 +58,11 @@ found xs h rest e = by-test (ltb 65536 (length xs))
     (λ t. absurd (stop-got (rw t at e)))
     (λ t. record { bits = bitsOf xs; rest = rest; finds = rw t at e })
 
--- In the record that the public reader answers, each field that is neither coded nor checked is 0, and each inferred one has the inferred value.
-pub reader-sets : (xs : List ℕ) {r : SequenceAnswer} → Answers xs r → r .outcome ≡ Done → Sets (r .«record»)
+-- In the record that is read, each field that is neither coded nor checked is 0, and each inferred one has the inferred value.
+pub record-sets : (xs : List ℕ) (h : SequenceHeaderObu) (rest : Bits) → read sequence-header xs ≡ got h rest → Sets h
 unfolding sequence-header
-reader-sets xs a e =
-    let g = was-read (read sequence-header xs) (sym (ap (λ (x : SequenceAnswer). x .outcome) a) ∙ e) in
-    let p = obu-parts _ _ (struct _ _ _ (λ _. refl) (found xs _ (g .0) (g .1))) in
-    rw a (sequence-sets _ (p .0) (p .1))
+record-sets xs h rest e = let p = obu-parts _ _ (struct _ _ _ (λ _. refl) (found xs h rest e)) in sequence-sets h (p .0) (p .1)
+
+-- .. and so in the record whose numbers the public reader leaves.
+pub reader-sets : (xs ns : List ℕ) {o : Outcome} {ms : List ℕ} → Answers xs ns o ms → o ≡ Done → (h : SequenceHeaderObu) × (ms ≡ numbers-of h) × Sets h
+reader-sets xs ns a e = let g = accepted xs ns a e in (g .it, g .numbers, record-sets xs (g .it) (g .rest) (g .reads))

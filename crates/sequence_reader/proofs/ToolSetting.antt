@@ -11,13 +11,18 @@ use Rattle.sequence.specs.declared.group.Choice.{Choice}
 use Rattle.sequence.specs.declared.group.InterTools.{InterTools}
 use Rattle.sequence.specs.declared.group.Sampling.{Sampling}
 use Rattle.sequence.specs.declared.group.Planes.{Planes}
-use Rattle.sequence.specs.Fields.{inter-tools-of, sampling-in}
+use Rattle.sequence.specs.Fields.{hint-tools-in, choice-in, hint-bits-in, inter-tools-in, inter-tools-of, sampling-in}
 use Rattle.sequence.specs.Optional.{flag-if}
 use Rattle.sequence.specs.Tools.{hint-tools, choice, no-choice, integer-mv, hint-bits, motion-tools, order-tools, full-tools, reduced-motion-tools, reduced-order-tools, reduced-tools, inter-tools}
 use Rattle.sequence.specs.Color.{color-values, color-description, sampling, fixed-sampling, mono-planes, srgb-planes, other-planes, planes, color-rest, color-config}
-use Rattle.sequence_reader.proofs.ToolReading.{no-choice-made, reduced-made}
 use Rattle.sequence_reader.proofs.Sets.{ToolsSets, ColorSets}
 use Rattle.sequence_reader.proofs.Found.{Found, first, second, struct, chosen, unchosen, is-absent, is-inferred, is-inferred-flag, uncoded, uncoded-flag, never, by-test}
+
+abbrev no-choice-made : Choice
+no-choice-made = choice-in (false, 2)
+
+abbrev reduced-made : InterTools
+reduced-made = inter-tools-in (false, (false, (false, (false, (false, (hint-tools-in (false, false), (no-choice-made, (no-choice-made, hint-bits-in (0, 0)))))))))
 
 -- 5.5.1: the tools
 module _ (e : ℕ) {c : Choice} where

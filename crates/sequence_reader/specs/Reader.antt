@@ -1,24 +1,35 @@
--- What the public reader answers.
+-- What the public reader answers, and what it leaves in the numbers that it is lent.
 use mathlib.Core.Path.{_≡_}
-use mathlib.Core.List.{List}
+use mathlib.Core.List.{List, []}
 use Prim.Native.Nat.{ℕ}
-use Rattle.bits.specs.Codec.{Got, got, stop}
-use Rattle.bits.specs.declared.answer.Refusal.{Refusal}
+use Rattle.bits.specs.Codec.{Got, got, stop, andThen}
 use Rattle.obu.specs.Demand3.{read}
 use Rattle.sequence.specs.declared.record.SequenceHeaderObu.{SequenceHeaderObu}
 use Rattle.sequence.specs.Sequence.{sequence-header}
-use Rattle.sequence_reader.specs.declared.read.SequenceAnswer.{SequenceAnswer}
+use Rattle.sequence_reader.specs.declared.read.Outcome.{Outcome}
 use Rattle.sequence_reader.specs.declared.read.Outcome.the-variants.{Done, Refused}
-use Rattle.sequence_reader.specs.Zeros.{no-record}
+use Rattle.sequence_reader.specs.Layouts.{header, numbers-of}
 
--- a refusal, with the record of zeros
-abbrev pub refusedAs : Refusal → SequenceAnswer
-refusedAs r = record { outcome = Refused r; «record» = no-record }
+pub record Answer : Type 0 where
+  pub outcome : Outcome
+  pub numbers : List ℕ
 
-unfoldable pub answerFor : Got SequenceHeaderObu → SequenceAnswer
-answerFor (got h rest) = record { outcome = Done; «record» = h }
-answerFor (stop r) = refusedAs r
+abbrev pub answer : Outcome → List ℕ → Answer
+answer o ns = record { outcome = o; numbers = ns }
 
--- The contract of `read_sequence_header`: what it answers to the bytes xs.
-abbrev pub Answers : List ℕ → SequenceAnswer → Type 0
-Answers xs r = r ≡ answerFor (read sequence-header xs)
+-- the record's numbers; where there is none, the numbers ns that were lent
+unfoldable pub answerFor : Got SequenceHeaderObu → List ℕ → Answer
+answerFor (got h rest) ns = answer Done (numbers-of h)
+answerFor (stop r) ns = answer (Refused r) ns
+
+-- The contract of `read_sequence_header`: to the bytes xs, lent the numbers ns, it answers o and leaves ms.
+abbrev pub Answers : List ℕ → List ℕ → Outcome → List ℕ → Type 0
+Answers xs ns o ms = answer o ms ≡ answerFor (read sequence-header xs) ns
+
+-- The same of a function inside, which fills the numbers and leaves anything where it refuses.
+abbrev pub told : Outcome → List ℕ → Got (List ℕ)
+told Done ns = got ns []
+told (Refused r) ns = stop r
+
+pub data Holds (xs ns : List ℕ) (o : Outcome) (ms : List ℕ) : Type 0 where
+  holds : andThen (read sequence-header xs) (λ h rest. got (header .from 0 .put h ns) []) ≡ told o ms → Holds xs ns o ms

@@ -1,6 +1,6 @@
 // The public calls: a sequence header OBU, read, and its payload.
-use crate::none::refuse;
-use crate::read_body::sequence_header_obu;
+use crate::body::sequence_header_obu;
+use crate::place;
 use bits::answer::Cursor;
 use bits::answer::Refusal;
 use bits::answer::Step;
@@ -8,11 +8,11 @@ use bits::answer::why_step;
 use obu::read::GotHeader;
 use obu::read::obu_header;
 use obu::read::obu_size;
+use obu::read::trailing_bits;
 use obu::read::why_header;
 use reader::rest;
-use sequence::record::SequenceHeaderObu;
 ghost use mathlib.Core.Path.{_≡_};
-ghost use Rattle.sequence_reader.specs.Reader.{Answers};
+ghost use Rattle.sequence_reader.specs.Reader.{Answers, Holds};
 ghost use Rattle.sequence_reader.specs.Payload.{behind, payloadPart, Hands};
 
 pub enum Outcome {
@@ -28,28 +28,48 @@ pub struct Part {
     pub size: usize,
 }
 
-// The record is that of zeros where the outcome is a refusal.
-pub struct SequenceAnswer {
-    pub outcome: Outcome,
-    pub record: SequenceHeaderObu,
-}
-
-// One OBU, the whole of `input`.
-pub fn read_sequence_header(input: &[u8]) -> SequenceAnswer
-    ensures { λ r. ⌜ Answers (now (input .entry)) r ⌝ }
+// One OBU, the whole of `input`, into n.
+fn one_obu(input: &[u8], n: &mut [u32; 347]) -> Outcome
+    ensures { λ r. ⌜ Holds (now (input .entry)) (now (n .entry)) r (now (n .exit)) ⌝ }
 {
     if 65536 < input.len() {
-        return refuse(Refusal::Long);
+        return Outcome::Refused(Refusal::Long);
     }
     let g = obu_header(input, Cursor { at: 0 }, 1);
     let GotHeader::Value(header, c) = g else {
-        return refuse(why_header(g));
+        return Outcome::Refused(why_header(g));
     };
     let z = obu_size(input, c, header.has_size_field);
     let Step::Next(c) = z else {
-        return refuse(why_step(z));
+        return Outcome::Refused(why_step(z));
     };
-    sequence_header_obu(input, c, header)
+    n[place::OBU_TYPE] = header.obu_type;
+    n[place::EXTENSION_FLAG] = header.extension_flag as u32;
+    n[place::HAS_SIZE_FIELD] = header.has_size_field as u32;
+    n[place::TEMPORAL_ID] = header.temporal_id;
+    n[place::SPATIAL_ID] = header.spatial_id;
+    let t = sequence_header_obu(input, c, n);
+    let Step::Next(c) = t else {
+        return Outcome::Refused(why_step(t));
+    };
+    let u = trailing_bits(input, c);
+    let Step::Next(_) = u else {
+        return Outcome::Refused(why_step(u));
+    };
+    Outcome::Done
+}
+
+// One OBU, the whole of `input`: its record's numbers; where it is refused, they are as they were.
+pub fn read_sequence_header(input: &[u8], numbers: &mut [u32; 347]) -> Outcome
+    ensures { λ r. ⌜ Answers (now (input .entry)) (now (numbers .entry)) r (now (numbers .exit)) ⌝ }
+{
+    let mut n = [0u32; 347];
+    let o = one_obu(input, &mut n);
+    let Outcome::Done = o else {
+        return o;
+    };
+    *numbers = n;
+    o
 }
 
 // The byte behind the size field, or behind the header if there is none; the end where they are refused.
@@ -71,8 +91,8 @@ fn behind(input: &[u8]) -> usize
 pub fn payload_part(input: &[u8]) -> Part
     ensures { λ r. ⌜ r ≡ payloadPart (now (input .entry)) ⌝ }
 {
-    let a = read_sequence_header(input);
-    let o = a.outcome;
+    let mut n = [0u32; 347];
+    let o = one_obu(input, &mut n);
     let Outcome::Done = o else {
         return Part { place: 0, size: 0 };
     };

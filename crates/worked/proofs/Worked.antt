@@ -34,9 +34,10 @@ use Rattle.sequence.specs.Frame.{max-frame-size, frame-size-fields, frame-size,
 use Rattle.sequence.specs.Tools.{block-tools, hint-tools, choice, no-choice, integer-mv, hint-bits, motion-tools, order-tools, full-tools, reduced-motion-tools, reduced-order-tools, reduced-tools, inter-tools, filter-tools}
 use Rattle.sequence.specs.Color.{color-values, color-description, sampling, fixed-sampling, mono-planes, srgb-planes, other-planes, planes, color-rest, color-config}
 use Rattle.sequence.specs.Sequence.{profile, full-general, reduced-general, general, grain, tools, body, sequence-header-obu, sequence-header}
-use Rattle.sequence_reader.specs.declared.read.SequenceAnswer.{SequenceAnswer}
-use Rattle.sequence_reader.specs.declared.read.Outcome.the-variants.{Done as Accepted}
-use Rattle.sequence_reader.specs.Reader.{refusedAs, answerFor, Answers}
+use Rattle.sequence_reader.specs.declared.read.Outcome.{Outcome}
+use Rattle.sequence_reader.specs.declared.read.Outcome.the-variants.{Done as Accepted, Refused}
+use Rattle.sequence_reader.specs.Layouts.{numbers-of}
+use Rattle.sequence_reader.specs.Reader.{answer, answerFor, Answers}
 use Rattle.parts.specs.Codes.{inferredSigned, zip}
 use Rattle.quantization.specs.Quantization.{read-delta-q, diff-uv, v-coded, v-inferred, v-deltas, uv-deltas, no-uv-deltas, three-planes, one-plane, chroma, v-matrix, matrices, qmatrix, quantization-table, quantization-params}
 use Rattle.cdef.specs.Cdef.{damping, secondary, strength, strengths, each-strength, on-table, cdef-on, cdef-off, cdef-params}
@@ -61,13 +62,13 @@ pub record Gives (w : Walk) (es : List ℕ) : Type 0 where
 abbrev Keeps : Walk → List ℕ → Refusal → Numbered → Type 0
 Keeps w buffer z n = (written w buffer ≡ untouched z buffer) × (numbered z ≡ n)
 
--- The public reader reads the bytes es as the record h ..
+-- The public reader reads the bytes es as the record h, whose numbers it leaves ..
 abbrev Reads : List ℕ → SequenceHeaderObu → Type 0
-Reads es h = (r : SequenceAnswer) → Answers es r → r ≡ record { outcome = Accepted; «record» = h }
+Reads es h = (ns : List ℕ) (o : Outcome) (ms : List ℕ) → Answers es ns o ms → answer o ms ≡ answer Accepted (numbers-of h)
 
--- .. or refuses them.
+-- .. or refuses them, and keeps the numbers that it is lent.
 abbrev Refuses : List ℕ → Refusal → Numbered → Type 0
-Refuses es z n = (r : SequenceAnswer) → Answers es r → (r ≡ refusedAs z) × (numbered z ≡ n)
+Refuses es z n = (ns : List ℕ) (o : Outcome) (ms : List ℕ) → Answers es ns o ms → (answer o ms ≡ answer (Refused z) ns) × (numbered z ≡ n)
 
 -- The walk w has these bits.
 abbrev Has : Walk → List ℕ → Type 0
@@ -123,11 +124,11 @@ worked = record {
   case-1-without-size = λ t s. given (search needs) (run-plain false t s);
   case-2 = λ u. given (search needs) refl;
   case-3 = λ u buffer h. (too-short _ buffer (omega arith) _ refl (omega arith), refl);
-  case-4-long-size = λ r h. h;
-  case-4-padding = λ r h. h;
-  case-5-trailing = λ r h. (h, refl);
-  case-5-size = λ r h. (h, refl);
-  case-5-ends = λ r h. (h, refl);
+  case-4-long-size = λ ns o ms h. h;
+  case-4-padding = λ ns o ms h. h;
+  case-5-trailing = λ ns o ms h. (h, refl);
+  case-5-size = λ ns o ms h. (h, refl);
+  case-5-ends = λ ns o ms h. (h, refl);
   case-6 = λ u. given (search needs) refl;
   case-7-255 = λ u. given (search needs) refl;
   case-7-256 = λ u buffer few. (refusing _ buffer _ few refl, refl);

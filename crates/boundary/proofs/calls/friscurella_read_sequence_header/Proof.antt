@@ -1,5 +1,5 @@
 use borrow.Author.Needs.{needs}
-use Rattle.boundary.proofs.Crossing.{zeros-beyond, read-crosses, refusal-crosses}
+use Rattle.boundary.proofs.Crossing.{read-crosses}
 use Rattle.boundary.proofs.calls.friscurella_read_sequence_header.Statement.{statement}
 use Rattle.boundary.proofs.calls.friscurella_read_sequence_header.Tie as tie
 
@@ -7,5 +7,4 @@ pub friscurella-read-sequence-header-spec : {M : Type 1} → statement M
 friscurella-read-sequence-header-spec =
     tie.close
     (tie.spec
-    (λ c κs. search needs) (λ c κs. search needs) (λ c κs. search needs) (λ c. search needs) (λ c. search needs) (λ c. search refusal-crosses)
-    (λ c κs. search zeros-beyond) (λ c. search read-crosses))
+    (λ c κs. search needs) (λ c κs. search needs) (λ c κs. search needs) (λ c. search read-crosses))

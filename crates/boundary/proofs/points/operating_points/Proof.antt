@@ -1,7 +1,7 @@
 -- The loop's invariant: the places below i are filled.
 use Prim.Native.Nat.{_-_}
 use borrow.Author.Needs.{needs}
-use Rattle.boundary.specs.Sequence.{point-of}
+use Rattle.boundary.specs.Groups.{point-of}
 use Rattle.boundary.proofs.Filling.{Filled, filled-none, part-on, part-end}
 use Rattle.boundary.proofs.points.operating_points.Statement.{statement}
 use Rattle.boundary.proofs.points.operating_points.Tie as tie

@@ -4,10 +4,10 @@ use Rattle.listing.proofs.points.operating_points.Statement.{statement}
 use Rattle.listing.proofs.points.operating_points.Tie as tie
 
 abbrev Inv-loop : tie.InvT-loop
-Inv-loop s last has-model n has-delay list at₀ i₀ at i = Unit {0}
+Inv-loop s last n has-model k has-delay p₀ i₀ p i = Unit {0}
 
 abbrev μ-loop : tie.MeasureT-loop
-μ-loop s last has-model n has-delay list at₀ i₀ at i = 32 - i
+μ-loop s last n has-model k has-delay p₀ i₀ p i = 32 - i
 
 pub operating-points-spec : {M : Type 1} → statement M
 operating-points-spec =
@@ -15,6 +15,7 @@ operating-points-spec =
     (tie.spec
     Inv-loop
     μ-loop
-    (λ c. tt)
-    (λ c. search needs) (λ c. search needs) (λ c κs. search needs) (λ c. search needs) (λ c. search needs) (λ c. tt)
+    (λ c. search needs) (λ c. search needs) (λ c κs. search needs) (λ c. search needs) (λ c. tt)
+    (λ c. search needs) (λ c. search needs) (λ c. search needs) (λ c. search needs) (λ c. search needs) (λ c. search needs) (λ c. search needs) (λ c. search needs) (λ c. search needs) (λ c. search needs) (λ c. search needs) (λ c κs. search needs)
+    (λ c. search needs) (λ c. search needs) (λ c. tt)
     (λ c. search needs))

@@ -1,7 +1,7 @@
 use borrow.Author.Needs.{needs}
-use Rattle.bits.specs.Codec.{f}
 use Rattle.sequence.specs.Optional.{f-if}
-use Rattle.sequence_reader.proofs.FieldReading.{optional-readings}
+use Rattle.bits.specs.Codec.{f}
+use Rattle.fill.proofs.Filling.{fillings}
 use Rattle.sequence_reader.proofs.optional.f_if.Statement.{statement}
 use Rattle.sequence_reader.proofs.optional.f_if.Tie as tie
 
@@ -10,5 +10,5 @@ unfolding f-if f
 f-if-spec =
     tie.close
     (tie.spec
-    (λ c κs. search needs) (λ c. search optional-readings depth 14)
-    (λ c. search optional-readings depth 14))
+    (λ c κs. search needs) (λ c. search fillings depth 14)
+    (λ c. search fillings depth 14))

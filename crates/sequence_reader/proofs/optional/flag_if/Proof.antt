@@ -1,6 +1,6 @@
 use borrow.Author.Needs.{needs}
 use Rattle.sequence.specs.Optional.{flag-if}
-use Rattle.sequence_reader.proofs.FieldReading.{optional-readings}
+use Rattle.fill.proofs.Filling.{fillings}
 use Rattle.sequence_reader.proofs.optional.flag_if.Statement.{statement}
 use Rattle.sequence_reader.proofs.optional.flag_if.Tie as tie
 
@@ -9,5 +9,5 @@ unfolding flag-if
 flag-if-spec =
     tie.close
     (tie.spec
-    (λ c κs. search needs) (λ c. search optional-readings depth 14)
-    (λ c. search optional-readings depth 14))
+    (λ c κs. search needs) (λ c. search fillings depth 14)
+    (λ c. search fillings depth 14))

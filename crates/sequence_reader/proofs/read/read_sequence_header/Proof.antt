@@ -1,5 +1,5 @@
 use borrow.Author.Needs.{needs}
-use Rattle.sequence_reader.proofs.Answering.{too-long, header-stop, size-stop, to-the-end}
+use Rattle.sequence_reader.proofs.Answering.{answer-done, answer-not}
 use Rattle.sequence_reader.proofs.read.read_sequence_header.Statement.{statement}
 use Rattle.sequence_reader.proofs.read.read_sequence_header.Tie as tie
 
@@ -7,7 +7,5 @@ pub read-sequence-header-spec : {M : Type 1} → statement M
 read-sequence-header-spec =
     tie.close
     (tie.spec
-    (λ c κs. search needs) (λ c. search too-long)
-    (λ c κs. search needs) (λ c. search needs) (λ c. search needs) (λ c κs. search needs) (λ c κs. search needs) (λ c. search header-stop)
-    (λ c κs. search needs) (λ c. search needs) (λ c. search needs) (λ c κs. search needs) (λ c κs. search needs) (λ c. search size-stop)
-    (λ c κs. search needs) (λ c. search to-the-end))
+    (λ c κs. search needs) (λ c. search needs) (λ c. search needs) (λ c. search answer-not)
+    (λ c. search answer-done))

@@ -1,0 +1,4 @@
+pub mod Filling
+pub mod Looping
+pub mod Lying
+pub mod Signs

@@ -1,7 +1,0 @@
-use borrow.Author.Needs.{needs}
-use Rattle.sequence_reader.proofs.FieldReading.{by-field}
-use Rattle.sequence_reader.proofs.read_color.chroma_sample_position.Statement.{statement}
-use Rattle.sequence_reader.proofs.read_color.chroma_sample_position.Tie as tie
-
-pub chroma-sample-position-spec : {M : Type 1} → statement M
-chroma-sample-position-spec = tie.close (tie.spec (λ c κs. search needs) (λ c κs. search needs) (λ c. search by-field))

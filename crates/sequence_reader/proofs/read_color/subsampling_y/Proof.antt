@@ -1,7 +1,0 @@
-use borrow.Author.Needs.{needs}
-use Rattle.sequence_reader.proofs.FieldReading.{by-flag}
-use Rattle.sequence_reader.proofs.read_color.subsampling_y.Statement.{statement}
-use Rattle.sequence_reader.proofs.read_color.subsampling_y.Tie as tie
-
-pub subsampling-y-spec : {M : Type 1} → statement M
-subsampling-y-spec = tie.close (tie.spec (λ c κs. search needs) (λ c κs. search needs) (λ c. search by-flag))

@@ -1,0 +1,216 @@
+// 5.5.5 operating_parameters_info, and the operating points of 5.5.1, read.
+use crate::optional::f_if;
+use crate::optional::flag_if;
+use crate::place;
+use bits::answer::Cursor;
+use bits::answer::Step;
+use fill::f;
+use fill::flag;
+use fill::mark;
+ghost use Prim.Native.Nat.{min, _+_, _≤_};
+ghost use Rattle.fill.specs.Fills.{Fills};
+ghost use Rattle.sequence.specs.Points.{operating-parameters-info, point-model, point-delay, point-rest, operating-point, reduced-point, points};
+ghost use Rattle.sequence_reader.specs.Layouts as row;
+ghost use Rattle.sequence_reader.specs.Tails.{any-point, point-list};
+
+// A width over 32 counts as 32, here and below; the point's numbers begin at `at`.
+fn operating_parameters_info(s: &[u8], c: Cursor, k: u32, at: usize, n: &mut [u32; 347]) -> Step
+    requires { ⌜ at + 9 ≤ 347 ⌝ }
+    ensures { λ r. ⌜ Fills (row.operating-parameters-info at) (operating-parameters-info (min k 32) 0 .dec) (now (s .entry)) c r (now (n .entry)) (now (n .exit)) ⌝ }
+{
+    let t = f(s, c, k, &mut n[at + 4]);
+    let Step::Next(c) = t else {
+        return t;
+    };
+    let t = f(s, c, k, &mut n[at + 5]);
+    let Step::Next(c) = t else {
+        return t;
+    };
+    mark(s, c, &mut n[at + 6])
+}
+
+fn point_model(s: &[u8], c: Cursor, has_model: bool, k: u32, at: usize, n: &mut [u32; 347]) -> Step
+    requires { ⌜ at + 9 ≤ 347 ⌝ }
+    ensures { λ r. ⌜ Fills (row.point-model at) (point-model «has_model» (min k 32) 0 .dec) (now (s .entry)) c r (now (n .entry)) (now (n .exit)) ⌝ }
+{
+    let mut present = false;
+    let t = flag_if(s, c, has_model, false, &mut present);
+    let Step::Next(c) = t else {
+        return t;
+    };
+    n[at + 3] = present as u32;
+    if present {
+        return operating_parameters_info(s, c, k, at, n);
+    }
+    n[at + 4] = 0;
+    n[at + 5] = 0;
+    n[at + 6] = 0;
+    Step::Next(c)
+}
+
+fn point_delay(s: &[u8], c: Cursor, has_delay: bool, at: usize, n: &mut [u32; 347]) -> Step
+    requires { ⌜ at + 9 ≤ 347 ⌝ }
+    ensures { λ r. ⌜ Fills (row.point-delay at) (point-delay «has_delay» 0 .dec) (now (s .entry)) c r (now (n .entry)) (now (n .exit)) ⌝ }
+{
+    if !has_delay {
+        n[at + 7] = 0;
+        n[at + 8] = 0;
+        return Step::Next(c);
+    }
+    let mut present = false;
+    let t = flag(s, c, &mut present);
+    let Step::Next(c) = t else {
+        return t;
+    };
+    n[at + 7] = present as u32;
+    if present {
+        return f(s, c, 4, &mut n[at + 8]);
+    }
+    n[at + 8] = 0;
+    Step::Next(c)
+}
+
+fn point_rest(
+    s: &[u8],
+    c: Cursor,
+    level: u32,
+    has_model: bool,
+    k: u32,
+    has_delay: bool,
+    at: usize,
+    n: &mut [u32; 347],
+) -> Step
+    requires { ⌜ at + 9 ≤ 347 ⌝ }
+    ensures { λ r. ⌜ Fills (row.point-rest at) (point-rest level «has_model» (min k 32) «has_delay» 0 .dec) (now (s .entry)) c r (now (n .entry)) (now (n .exit)) ⌝ }
+{
+    let t = f_if(s, c, 7 < level, 1, 0, &mut n[at + 2]);
+    let Step::Next(c) = t else {
+        return t;
+    };
+    let t = point_model(s, c, has_model, k, at, n);
+    let Step::Next(c) = t else {
+        return t;
+    };
+    point_delay(s, c, has_delay, at, n)
+}
+
+fn operating_point(
+    s: &[u8],
+    c: Cursor,
+    has_model: bool,
+    k: u32,
+    has_delay: bool,
+    at: usize,
+    n: &mut [u32; 347],
+) -> Step
+    requires { ⌜ at + 9 ≤ 347 ⌝ }
+    ensures { λ r. ⌜ Fills (row.operating-point at) (operating-point «has_model» (min k 32) «has_delay» 0 .dec) (now (s .entry)) c r (now (n .entry)) (now (n .exit)) ⌝ }
+{
+    let t = f(s, c, 12, &mut n[at]);
+    let Step::Next(c) = t else {
+        return t;
+    };
+    let mut level = 0;
+    let t = f(s, c, 5, &mut level);
+    let Step::Next(c) = t else {
+        return t;
+    };
+    n[at + 1] = level;
+    point_rest(s, c, level, has_model, k, has_delay, at, n)
+}
+
+// With the reduced header only the level is coded.
+fn reduced_point(s: &[u8], c: Cursor, at: usize, n: &mut [u32; 347]) -> Step
+    requires { ⌜ at + 9 ≤ 347 ⌝ }
+    ensures { λ r. ⌜ Fills (row.operating-point at) (reduced-point .dec) (now (s .entry)) c r (now (n .entry)) (now (n .exit)) ⌝ }
+{
+    let mut level = 0;
+    let t = f(s, c, 5, &mut level);
+    let Step::Next(c) = t else {
+        return t;
+    };
+    n[at] = 0;
+    n[at + 1] = level;
+    n[at + 2] = 0;
+    n[at + 3] = 0;
+    n[at + 4] = 0;
+    n[at + 5] = 0;
+    n[at + 6] = 0;
+    n[at + 7] = 0;
+    n[at + 8] = 0;
+    Step::Next(c)
+}
+
+fn any_point(
+    s: &[u8],
+    c: Cursor,
+    reduced: bool,
+    has_model: bool,
+    k: u32,
+    has_delay: bool,
+    at: usize,
+    n: &mut [u32; 347],
+) -> Step
+    requires { ⌜ at + 9 ≤ 347 ⌝ }
+    ensures { λ r. ⌜ Fills (row.operating-point at) (any-point reduced «has_model» (min k 32) «has_delay» 0 .dec) (now (s .entry)) c r (now (n .entry)) (now (n .exit)) ⌝ }
+{
+    if reduced {
+        return reduced_point(s, c, at, n);
+    }
+    operating_point(s, c, has_model, k, has_delay, at, n)
+}
+
+// The first `count` points.
+pub fn operating_points(
+    s: &[u8],
+    c: Cursor,
+    reduced: bool,
+    has_model: bool,
+    k: u32,
+    has_delay: bool,
+    count: usize,
+    n: &mut [u32; 347],
+) -> Step
+    requires { ⌜ count ≤ 32 ⌝ }
+    ensures { λ r. ⌜ Fills (row.operating-points 20 count) (point-list reduced «has_model» (min k 32) «has_delay» count .dec) (now (s .entry)) c r (now (n .entry)) (now (n .exit)) ⌝ }
+{
+    let mut p = c;
+    let mut i = 0;
+    while i < count {
+        let t = any_point(
+            s,
+            p,
+            reduced,
+            has_model,
+            k,
+            has_delay,
+            place::OPERATING_POINTS + 9 * i,
+            n,
+        );
+        let Step::Next(q) = t else {
+            return t;
+        };
+        p = q;
+        i += 1;
+    }
+    Step::Next(p)
+}
+
+// initial_display_delay_present_flag, operating_points_cnt_minus_1, and so many points.
+pub fn points(s: &[u8], c: Cursor, has_model: bool, k: u32, n: &mut [u32; 347]) -> Step
+    ensures { λ r. ⌜ Fills (row.points .from 18) (points «has_model» (min k 32) .dec) (now (s .entry)) c r (now (n .entry)) (now (n .exit)) ⌝ }
+{
+    let mut has_delay = false;
+    let t = flag(s, c, &mut has_delay);
+    let Step::Next(c) = t else {
+        return t;
+    };
+    n[place::INITIAL_DISPLAY_DELAY_PRESENT_FLAG] = has_delay as u32;
+    let mut count = 0;
+    let t = f(s, c, 5, &mut count);
+    let Step::Next(c) = t else {
+        return t;
+    };
+    n[place::OPERATING_POINTS_CNT_MINUS_1] = count;
+    operating_points(s, c, false, has_model, k, has_delay, count as usize + 1, n)
+}
