@@ -5,8 +5,8 @@ use mathlib.Core.Logic.{⊎-elim}
 use Prim.Native.Nat.{ℕ, zero, suc, _+_, _-_, _*_, _<_, _≤_, min}
 use native.Mathlib.Omega.{arith}
 use native.Mathlib.Numerals.{add-one}
-use lib.ListN.{length, replicate, set, take, getD, length-append, length-replicate, replicate-append-replicate, List·getD-append}
-use lib.Seq.{sets, set-at, length-sets, take-at, getD-append-add}
+use lib.ListN.{length, replicate, set, take, getD, length-append, length-replicate, List·getD-append}
+use lib.Seq.{set-at, take-at, getD-append-add}
 use Rattle.bits.proofs.Storing.{below-or}
 use Rattle.boundary.specs.Numbers.{joined, each}
 

@@ -1,7 +1,7 @@
 -- How a loop reads the items of an array in place, one behind the other.
 use mathlib.Core.Path.{_≡_, refl}
 use mathlib.Core.List.{List, _∷_}
-use mathlib.Core.Bool.{Bool, true, false, cond}
+use mathlib.Core.Bool.{Bool, true, cond}
 use Prim.Native.Nat.{ℕ, zero, suc, _+_, _-_, _<_, _≤_}
 use native.Mathlib.Omega.{arith}
 use lib.ListN.{replicate}
@@ -9,7 +9,7 @@ use lib.Dec.{ltb}
 use borrow.Author.Tests.{lt-ltb, le-ltb}
 use Rattle.bits.specs.Bits.{Bits, from}
 use Rattle.bits.specs.Codec.{Codec, got, absent, choose, via, array, uncons, _▷_}
-use Rattle.bits.specs.Answers.{Reads, Reading, reading, value, found, moved}
+use Rattle.bits.specs.Answers.{reading, found, moved}
 use Rattle.bits.specs.declared.answer.Cursor.{Cursor}
 use Rattle.bits.specs.declared.answer.Refusal.{Refusal}
 use Rattle.bits.specs.declared.answer.Step.{Step}

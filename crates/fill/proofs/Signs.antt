@@ -1,5 +1,5 @@
 -- A number with a sign that was read fits.
-use mathlib.Core.Path.{_≡_, refl, sym}
+use mathlib.Core.Path.{_≡_, refl}
 use mathlib.Core.List.{List}
 use mathlib.Core.Bool.{Bool, true, false, cond}
 use Prim.Native.Nat.{ℕ, suc, _*_, _-_, _^_, _<_, _≤_, min}
@@ -11,11 +11,11 @@ use lib.Dec.{ltb}
 use borrow.Author.Tests.{ltb-true, ltb-false}
 use mir.Syntax.{w32}
 use mir.Val.{SFits, toZ, ofZ, boolByte}
-use mir.Facts.{toZ-ofZ, toZ-pos}
-use Rattle.bits.specs.Codec.{Codec, f, recode}
+use mir.Facts.{toZ-ofZ}
+use Rattle.bits.specs.Codec.{f, recode}
 use Rattle.bits.specs.Codec as bits
 use Rattle.bits.specs.Codes.{su, su-in}
-use Rattle.bits.specs.Answers.{why, Said, Reads, value, signed, number, flag}
+use Rattle.bits.specs.Answers.{why, Said, signed, number, flag}
 use Rattle.bits.specs.declared.answer.Cursor.{Cursor}
 use Rattle.bits.specs.declared.answer.GotSigned.{GotSigned}
 use Rattle.bits.specs.declared.answer.GotSigned.the-variants as I

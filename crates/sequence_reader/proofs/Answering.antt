@@ -3,14 +3,13 @@ use mathlib.Core.Path.{_≡_, refl, sym, ap, _∙_}
 use mathlib.Core.List.{List, [], _∷_}
 use mathlib.Core.Bool.{Bool, true, false, cond}
 use Prim.Native.Nat.{ℕ, _<_, _≤_}
-use native.Mathlib.Omega.{arith}
 use lib.ListN.{length, replicate}
 use lib.Seq.{sets}
 use lib.Dec.{ltb}
 use mir.Val.{boolByte}
 use Rattle.bits.specs.Bits.{Bits, bitsOf}
 use Rattle.bits.specs.Codec.{Got, got, stop, andThen, via}
-use Rattle.bits.specs.Answers.{value, why, Reads, Said, step}
+use Rattle.bits.specs.Answers.{why, Said, step}
 use Rattle.bits.specs.declared.answer.Cursor.{Cursor}
 use Rattle.bits.specs.declared.answer.Refusal.{Refusal}
 use Rattle.bits.specs.declared.answer.Refusal.the-variants.{Long}
@@ -30,12 +29,12 @@ use Rattle.obu.proofs.ObuReading.{read-long, no-header, no-size, no-payload, no
 use Rattle.fill.specs.Fills.{at, of, nowhere, _▸_, Fills}
 use Rattle.fill.proofs.Filling.{Was, went, stopped}
 use Rattle.sequence.specs.declared.record.SequenceHeaderObu.{SequenceHeaderObu}
-use Rattle.sequence.specs.Fields.{SequenceTable, record-in}
+use Rattle.sequence.specs.Fields.{record-in}
 use Rattle.sequence.specs.Sequence.{sequence-header-obu, sequence-header}
 use Rattle.sequence_reader.specs.declared.read.Outcome.{Outcome}
 use Rattle.sequence_reader.specs.declared.read.Outcome.the-variants.{Done, Refused}
 use Rattle.sequence_reader.specs.Layouts as row
-use Rattle.sequence_reader.specs.Reader.{answer, answerFor, Answers, told, Holds, holds}
+use Rattle.sequence_reader.specs.Reader.{answer, answerFor, Answers, Holds, holds}
 
 -- the record is made of the header and the table's value
 as-record : (xs : List ℕ) → read sequence-header xs ≡ andThen (read (obu 1 sequence-header-obu) xs) (λ a rest. got (record-in a) rest)

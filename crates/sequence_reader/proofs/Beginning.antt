@@ -4,9 +4,8 @@ use mathlib.Core.List.{List, [], _∷_}
 use mathlib.Core.Bool.{Bool, true, false}
 use Prim.Native.Nat.{ℕ, _+_, _^_, _<_, min}
 use native.Mathlib.Omega.{arith}
-use lib.ListN.{set}
 use lib.Seq.{sets}
-use Rattle.bits.specs.Codec.{Codec, f, absent, inferred, inferredFlag, choose, via, _▷_}
+use Rattle.bits.specs.Codec.{f, absent, inferredFlag, choose, via, _▷_}
 use Rattle.bits.specs.Answers.{value, Reads, reading, found, moved}
 use Rattle.bits.specs.declared.answer.Cursor.{Cursor}
 use Rattle.bits.specs.declared.answer.Step.{Step}

@@ -13,7 +13,7 @@ use Rattle.bits.specs.declared.answer.Cursor.{Cursor}
 use Rattle.bits.specs.declared.answer.Step.{Step}
 use Rattle.bits.specs.declared.answer.Step.the-variants.{Next, Refused}
 use Rattle.bits.specs.declared.answer.Refusal.{Refusal}
-use Rattle.bits.specs.Answers.{Reads, Reading, reading, value, found, moved}
+use Rattle.bits.specs.Answers.{Reads, reading, value, found, moved}
 use Rattle.bits.proofs.Bounds.{f-small}
 use Rattle.bits.proofs.Reading.{read-on}
 use Rattle.fill.specs.Fills.{Layout, same, bit, made, at, whole, of, _▸_, _∥_, Fills}

@@ -1,9 +1,7 @@
 pub mod Choosing
 pub mod Pointing
 pub mod Beginning
-pub mod Sizing
-pub mod Coloring
-pub mod Profiles
+pub mod Steps
 pub mod Answering
 pub mod PayloadParts
 pub mod Demand

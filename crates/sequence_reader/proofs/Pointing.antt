@@ -8,7 +8,7 @@ use lib.ListN.{set}
 use lib.Dec.{leb}
 use borrow.Author.Tests.{le-leb}
 use Rattle.bits.specs.Codec.{Codec, f, absent, inferred, inferredFlag, allowed, choose, select, via, _▷_, nil}
-use Rattle.bits.specs.Answers.{Reads, reading, value, refused, found, moved}
+use Rattle.bits.specs.Answers.{Reads, reading, refused, found, moved}
 use Rattle.bits.specs.declared.answer.Cursor.{Cursor}
 use Rattle.bits.specs.declared.answer.Refusal.{Refusal}
 use Rattle.bits.specs.declared.answer.Step.{Step}

@@ -1,5 +1,5 @@
 use borrow.Author.Needs.{needs}
-use Rattle.sequence_reader.proofs.Profiles.{profile-no, profile-stop, profile-yes}
+use Rattle.sequence_reader.proofs.Steps.{profile-no, profile-stop, profile-yes}
 use Rattle.sequence_reader.proofs.body.profile.Statement.{statement}
 use Rattle.sequence_reader.proofs.body.profile.Tie as tie
 

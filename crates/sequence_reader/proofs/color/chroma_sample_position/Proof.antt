@@ -1,5 +1,5 @@
 use borrow.Author.Needs.{needs}
-use Rattle.sequence_reader.proofs.Coloring.{by-field}
+use Rattle.sequence_reader.proofs.Steps.{by-field}
 use Rattle.sequence_reader.proofs.color.chroma_sample_position.Statement.{statement}
 use Rattle.sequence_reader.proofs.color.chroma_sample_position.Tie as tie
 

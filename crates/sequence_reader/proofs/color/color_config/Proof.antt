@@ -2,7 +2,7 @@ use borrow.Author.Needs.{needs}
 use Rattle.sequence.specs.Color.{color-config}
 use Rattle.sequence.specs.Optional.{flag-if}
 use Rattle.bits.specs.Codec.{select, inferredFlag}
-use Rattle.sequence_reader.proofs.Coloring.{color-fillings, color-halts}
+use Rattle.sequence_reader.proofs.Steps.{color-fillings, color-halts}
 use Rattle.sequence_reader.proofs.color.color_config.Statement.{statement}
 use Rattle.sequence_reader.proofs.color.color_config.Tie as tie
 

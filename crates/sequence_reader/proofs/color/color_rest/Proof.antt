@@ -1,6 +1,6 @@
 use borrow.Author.Needs.{needs}
 use Rattle.sequence.specs.Color.{color-rest, color-description}
-use Rattle.sequence_reader.proofs.Coloring.{color-fillings, color-halts}
+use Rattle.sequence_reader.proofs.Steps.{color-fillings, color-halts}
 use Rattle.sequence_reader.proofs.color.color_rest.Statement.{statement}
 use Rattle.sequence_reader.proofs.color.color_rest.Tie as tie
 

@@ -1,5 +1,5 @@
 use borrow.Author.Needs.{needs}
-use Rattle.sequence_reader.proofs.Coloring.{by-flag}
+use Rattle.sequence_reader.proofs.Steps.{by-flag}
 use Rattle.sequence_reader.proofs.color.subsampling_y.Statement.{statement}
 use Rattle.sequence_reader.proofs.color.subsampling_y.Tie as tie
 

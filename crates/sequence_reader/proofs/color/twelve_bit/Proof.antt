@@ -1,5 +1,5 @@
 use borrow.Author.Needs.{needs}
-use Rattle.sequence_reader.proofs.Coloring.{by-flag}
+use Rattle.sequence_reader.proofs.Steps.{by-flag}
 use Rattle.sequence_reader.proofs.color.twelve_bit.Statement.{statement}
 use Rattle.sequence_reader.proofs.color.twelve_bit.Tie as tie
 

@@ -2,7 +2,7 @@ use borrow.Author.Needs.{needs}
 use Rattle.sequence.specs.Frame.{frame-size, frame-size-fields}
 use Rattle.bits.specs.Codec.{f}
 use Rattle.fill.proofs.Filling.{fillings, halts}
-use Rattle.sequence_reader.proofs.Sizing.{size-bits}
+use Rattle.sequence_reader.proofs.Steps.{size-bits}
 use Rattle.sequence_reader.proofs.frame.frame_size.Statement.{statement}
 use Rattle.sequence_reader.proofs.frame.frame_size.Tie as tie
 

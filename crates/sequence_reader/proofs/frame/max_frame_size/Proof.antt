@@ -1,6 +1,6 @@
 use borrow.Author.Needs.{needs}
 use Rattle.sequence.specs.Frame.{max-frame-size}
-use Rattle.sequence_reader.proofs.Sizing.{wide-fillings, wide-halts}
+use Rattle.sequence_reader.proofs.Steps.{wide-fillings, wide-halts}
 use Rattle.sequence_reader.proofs.frame.max_frame_size.Statement.{statement}
 use Rattle.sequence_reader.proofs.frame.max_frame_size.Tie as tie
 
