@@ -6,42 +6,46 @@ ghost use Rattle.obu.specs.Demand3.{read};
 ghost use Rattle.sequence.specs.Sequence.{sequence-header};
 ghost use Rattle.sequence_reader.specs.Layouts.{header-of, record-of};
 ghost use Rattle.sequence_reader.specs.Payload.{payloadPart};
-ghost use Rattle.boundary.specs.Calls.{lent, wrote-obu, was-read, part-numbers};
+ghost use Rattle.friscurella.specs.Calls.{lent, wrote-obu, was-read, part-numbers};
 
-pub fn friscurella_write_sequence_header(record: &[u32; 347], out: &mut [u8], answer: &mut [u32; 3])
-    ensures { λ _. ⌜ lent (now (answer .exit)) (now (out .exit)) ≡ wrote-obu (sequence-header .enc (record-of (now («record» .entry)))) (now (out .entry)) ⌝ }
+pub fn friscurella_write_sequence_header(
+    record: &[u32; 347],
+    out: &mut [u8],
+    answer: &mut [u32; 4],
+) -> u32
+    ensures { λ r. ⌜ lent r (now (answer .exit)) (now (out .exit)) ≡ wrote-obu (sequence-header .enc (record-of (now («record» .entry)))) (now (out .entry)) ⌝ }
 {
-    boundary::calls::friscurella_write_sequence_header(record, out, answer);
+    friscurella::calls::friscurella_write_sequence_header(record, out, answer)
 }
 
 pub fn friscurella_write_temporal_delimiter(
     record: &[u32; 5],
     out: &mut [u8],
-    answer: &mut [u32; 3],
-)
-    ensures { λ _. ⌜ lent (now (answer .exit)) (now (out .exit)) ≡ wrote-obu (temporal-delimiter (header-of (now («record» .entry)))) (now (out .entry)) ⌝ }
+    answer: &mut [u32; 4],
+) -> u32
+    ensures { λ r. ⌜ lent r (now (answer .exit)) (now (out .exit)) ≡ wrote-obu (temporal-delimiter (header-of (now («record» .entry)))) (now (out .entry)) ⌝ }
 {
-    boundary::calls::friscurella_write_temporal_delimiter(record, out, answer);
+    friscurella::calls::friscurella_write_temporal_delimiter(record, out, answer)
 }
 
 pub fn friscurella_read_sequence_header(
     input: &[u8],
     record: &mut [u32; 347],
-    answer: &mut [u32; 3],
-)
-    ensures { λ _. ⌜ lent (now (answer .exit)) (now («record» .exit)) ≡ was-read (read sequence-header (now (input .entry))) (now («record» .entry)) ⌝ }
+    answer: &mut [u32; 4],
+) -> u32
+    ensures { λ r. ⌜ lent r (now (answer .exit)) (now («record» .exit)) ≡ was-read (read sequence-header (now (input .entry))) (now («record» .entry)) ⌝ }
 {
-    boundary::calls::friscurella_read_sequence_header(input, record, answer);
+    friscurella::calls::friscurella_read_sequence_header(input, record, answer)
 }
 
 pub fn friscurella_payload(input: &[u8], answer: &mut [u32; 2])
     ensures { λ _. ⌜ now (answer .exit) ≡ part-numbers (payloadPart (now (input .entry))) ⌝ }
 {
-    boundary::calls::friscurella_payload(input, answer);
+    friscurella::calls::friscurella_payload(input, answer);
 }
 
 pub fn friscurella_is_temporal_delimiter(input: &[u8]) -> bool
     ensures { λ r. ⌜ Tells r (IsDelimiter (now (input .entry))) ⌝ }
 {
-    boundary::calls::friscurella_is_temporal_delimiter(input)
+    friscurella::calls::friscurella_is_temporal_delimiter(input)
 }

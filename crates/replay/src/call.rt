@@ -2,15 +2,7 @@
 use crate::fields::Taken;
 use crate::settings::Parsed;
 use crate::word::Word;
-use boundary::calls::friscurella_payload;
-use boundary::calls::friscurella_read_sequence_header;
-use boundary::calls::friscurella_write_cdef_params;
-use boundary::calls::friscurella_write_loop_filter_params;
-use boundary::calls::friscurella_write_lr_params;
-use boundary::calls::friscurella_write_quantization_params;
-use boundary::calls::friscurella_write_segmentation_params;
-use boundary::calls::friscurella_write_sequence_header;
-use boundary::calls::friscurella_write_temporal_delimiter;
+use friscurella::calls::*;
 use lines::parse::Bytes;
 ghost use mathlib.Core.Path.{_≡_};
 ghost use mir.Syntax.{w32};
@@ -39,42 +31,48 @@ fn all_signed(record: &[u32; 347], to: &mut [i32]) {
     }
 }
 
-fn td(record: &[u32; 347], out: &mut [u8], answer: &mut [u32; 3]) {
+fn td(record: &[u32; 347], out: &mut [u8], answer: &mut [u32; 4]) -> u32 {
     let r = [record[0], record[1], record[2], record[3], record[4]];
-    friscurella_write_temporal_delimiter(&r, out, answer);
+    friscurella_write_temporal_delimiter(&r, out, answer)
 }
 
-fn quant(record: &[u32; 347], place: u32, out: &mut [u8], answer: &mut [u32; 3]) {
+fn quant(record: &[u32; 347], place: u32, out: &mut [u8], answer: &mut [u32; 4]) -> u32 {
     let mut r = [0i32; 13];
     all_signed(record, &mut r);
-    friscurella_write_quantization_params(&r, place, out, answer);
+    friscurella_write_quantization_params(&r, place, out, answer)
 }
 
-fn seg(record: &[u32; 347], place: u32, out: &mut [u8], answer: &mut [u32; 3]) {
+fn seg(record: &[u32; 347], place: u32, out: &mut [u8], answer: &mut [u32; 4]) -> u32 {
     let mut r = [0i32; 133];
     all_signed(record, &mut r);
-    friscurella_write_segmentation_params(&r, place, out, answer);
+    friscurella_write_segmentation_params(&r, place, out, answer)
 }
 
-fn lf(record: &[u32; 347], place: u32, out: &mut [u8], answer: &mut [u32; 3]) {
+fn lf(record: &[u32; 347], place: u32, out: &mut [u8], answer: &mut [u32; 4]) -> u32 {
     let mut r = [0i32; 20];
     all_signed(record, &mut r);
-    friscurella_write_loop_filter_params(&r, place, out, answer);
+    friscurella_write_loop_filter_params(&r, place, out, answer)
 }
 
-fn cdef(record: &[u32; 347], place: u32, out: &mut [u8], answer: &mut [u32; 3]) {
+fn cdef(record: &[u32; 347], place: u32, out: &mut [u8], answer: &mut [u32; 4]) -> u32 {
     let mut r = [0i32; 38];
     all_signed(record, &mut r);
-    friscurella_write_cdef_params(&r, place, out, answer);
+    friscurella_write_cdef_params(&r, place, out, answer)
 }
 
-fn lr(record: &[u32; 347], place: u32, out: &mut [u8], answer: &mut [u32; 3]) {
+fn lr(record: &[u32; 347], place: u32, out: &mut [u8], answer: &mut [u32; 4]) -> u32 {
     let mut r = [0i32; 14];
     all_signed(record, &mut r);
-    friscurella_write_lr_params(&r, place, out, answer);
+    friscurella_write_lr_params(&r, place, out, answer)
 }
 
-fn writer(word: Word, record: &[u32; 347], place: u32, out: &mut [u8], answer: &mut [u32; 3]) {
+fn writer(
+    word: Word,
+    record: &[u32; 347],
+    place: u32,
+    out: &mut [u8],
+    answer: &mut [u32; 4],
+) -> u32 {
     match word {
         Word::Seq => friscurella_write_sequence_header(record, out, answer),
         Word::Td => td(record, out, answer),
@@ -83,7 +81,7 @@ fn writer(word: Word, record: &[u32; 347], place: u32, out: &mut [u8], answer: &
         Word::Lf => lf(record, place, out, answer),
         Word::Cdef => cdef(record, place, out, answer),
         Word::Lr => lr(record, place, out, answer),
-        _ => {}
+        _ => 0,
     }
 }
 
@@ -102,7 +100,7 @@ pub fn write(word: Word, line: &[u8], at: usize, buffer: &mut [u8], out: &mut [u
     if buffer.len() < size {
         return crate::show::bad(out);
     }
-    let mut answer = [0u32; 3];
+    let mut answer = [0u32; 4];
     writer(word, &record, s.place, &mut buffer[0..size], &mut answer);
     crate::show::written(out, &answer, &buffer[0..size])
 }
@@ -132,7 +130,7 @@ pub fn read(line: &[u8], at: usize, buffer: &mut [u8], out: &mut [u8]) -> usize 
         return crate::show::bad(out);
     }
     let mut record = [0u32; 347];
-    let mut answer = [0u32; 3];
+    let mut answer = [0u32; 4];
     friscurella_read_sequence_header(&buffer[0..size], &mut record, &mut answer);
     crate::show::record(out, &answer, &record)
 }

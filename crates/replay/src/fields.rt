@@ -2,6 +2,7 @@
 // f a flag (any number, and any but 0 sets it), n 0 to 2^32 - 1, b 0 to 255, d -128 to 127, h -32768 to 32767.
 use crate::word::Word;
 use lines::parse::Numeral;
+use sequence_reader::place;
 ghost use mathlib.Core.Path.{_≡_};
 ghost use Rattle.replay.specs.Fields.{coded, most-below};
 ghost use Rattle.replay.specs.Fields.{most as Fields·most};
@@ -133,7 +134,7 @@ fn points(line: &[u8], t: Taken, record: &mut [u32]) -> Taken {
     let Taken::Next(at, _) = p else {
         return Taken::Bad;
     };
-    Taken::Next(at, 308)
+    Taken::Next(at, place::FRAME_WIDTH_BITS_MINUS_1)
 }
 
 fn sequence(line: &[u8], t: Taken, record: &mut [u32]) -> Taken {

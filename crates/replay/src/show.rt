@@ -2,6 +2,7 @@
 use lines::answer::byte;
 use lines::answer::decimal;
 use lines::answer::text;
+use sequence_reader::place;
 ghost use Prim.Native.Nat.{_≤_};
 
 pub fn bad(out: &mut [u8]) -> usize {
@@ -19,7 +20,7 @@ fn more(out: &mut [u8], at: usize, n: u32) -> usize {
 }
 
 // The numbers of an answer: 0 and the count, or a refusal and its two values.
-fn numbers(out: &mut [u8], answer: &[u32; 3]) -> usize {
+fn numbers(out: &mut [u8], answer: &[u32; 4]) -> usize {
     let at = number(out, 0, answer[0]);
     let at = more(out, at, answer[1]);
     if answer[0] == 0 {
@@ -29,7 +30,7 @@ fn numbers(out: &mut [u8], answer: &[u32; 3]) -> usize {
 }
 
 // A writer's answer, and the whole buffer.
-pub fn written(out: &mut [u8], answer: &[u32; 3], buffer: &[u8]) -> usize {
+pub fn written(out: &mut [u8], answer: &[u32; 4], buffer: &[u8]) -> usize {
     let at = numbers(out, answer);
     if buffer.len() == 0 {
         return byte(out, at, b'\n');
@@ -52,15 +53,15 @@ fn row(out: &mut [u8], at: usize, record: &[u32; 347], from: usize, to: usize) -
 }
 
 // A record that was read, as the numbers of `seq` with 32 operating points; or the refusal.
-pub fn record(out: &mut [u8], answer: &[u32; 3], record: &[u32; 347]) -> usize {
+pub fn record(out: &mut [u8], answer: &[u32; 4], record: &[u32; 347]) -> usize {
     if answer[0] != 0 {
         let at = numbers(out, answer);
         return byte(out, at, b'\n');
     }
     let at = byte(out, 0, b'0');
-    let at = row(out, at, record, 0, 20);
+    let at = row(out, at, record, 0, place::OPERATING_POINTS);
     let at = more(out, at, 32);
-    let at = row(out, at, record, 20, 347);
+    let at = row(out, at, record, place::OPERATING_POINTS, 347);
     byte(out, at, b'\n')
 }
 

@@ -1,0 +1,10 @@
+use borrow.Author.Needs.{needs}
+use Rattle.friscurella.proofs.Crossing.{loop-filter-crosses}
+use Rattle.friscurella.proofs.calls.friscurella_write_loop_filter_params.Statement.{statement}
+use Rattle.friscurella.proofs.calls.friscurella_write_loop_filter_params.Tie as tie
+
+pub friscurella-write-loop-filter-params-spec : {M : Type 1} → statement M
+friscurella-write-loop-filter-params-spec =
+    tie.close
+    (tie.spec
+    (λ c κs. search needs) (λ c κs. search needs) (λ c κs. search needs) (λ c κs. search needs) (λ c κs. search needs) (λ c. search needs) (λ c. search loop-filter-crosses))

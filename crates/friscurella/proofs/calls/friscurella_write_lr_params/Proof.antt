@@ -1,0 +1,10 @@
+use borrow.Author.Needs.{needs}
+use Rattle.friscurella.proofs.Crossing.{lr-crosses}
+use Rattle.friscurella.proofs.calls.friscurella_write_lr_params.Statement.{statement}
+use Rattle.friscurella.proofs.calls.friscurella_write_lr_params.Tie as tie
+
+pub friscurella-write-lr-params-spec : {M : Type 1} → statement M
+friscurella-write-lr-params-spec =
+    tie.close
+    (tie.spec
+    (λ c κs. search needs) (λ c κs. search needs) (λ c κs. search needs) (λ c κs. search needs) (λ c κs. search needs) (λ c. search needs) (λ c. search lr-crosses))

@@ -1,0 +1,10 @@
+use borrow.Author.Needs.{needs}
+use Rattle.friscurella.proofs.Crossing.{quantization-crosses}
+use Rattle.friscurella.proofs.calls.friscurella_write_quantization_params.Statement.{statement}
+use Rattle.friscurella.proofs.calls.friscurella_write_quantization_params.Tie as tie
+
+pub friscurella-write-quantization-params-spec : {M : Type 1} → statement M
+friscurella-write-quantization-params-spec =
+    tie.close
+    (tie.spec
+    (λ c κs. search needs) (λ c κs. search needs) (λ c κs. search needs) (λ c κs. search needs) (λ c κs. search needs) (λ c. search needs) (λ c. search quantization-crosses))

@@ -1,0 +1,11 @@
+use borrow.Author.Needs.{needs}
+use Rattle.friscurella.proofs.Records.{quantization-params-is}
+use Rattle.friscurella.proofs.Narrowing.{stored}
+use Rattle.friscurella.proofs.quantization_record.quantization_params.Statement.{statement}
+use Rattle.friscurella.proofs.quantization_record.quantization_params.Tie as tie
+
+pub quantization-params-spec : {M : Type 1} → statement M
+quantization-params-spec =
+    tie.close
+    (tie.spec
+    (λ c κs. search needs) (λ c κs. search needs) (λ c κs. search needs) (λ c κs. search needs) (λ c κs. search needs) (λ c κs. search needs) (λ c κs. search needs) (λ c κs. search needs) (λ c κs. search needs) (λ c κs. search needs) (λ c κs. search needs) (λ c. search (quantization-params-is, stored)))

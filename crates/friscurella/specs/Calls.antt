@@ -1,0 +1,51 @@
+-- What each call leaves in the arrays and the buffer that it is lent.
+use mathlib.Core.List.{List, [], _∷_}
+use Prim.Native.Nat.{ℕ}
+use Rattle.bits.specs.Walk.{Walk}
+use Rattle.bits.specs.Codec.{Got, got, stop}
+use Rattle.bits.specs.Answers.{numbered, plain}
+use Rattle.bits.specs.declared.answer.Numbered.{Numbered}
+use Rattle.obu.specs.Writer as obu
+use Rattle.parts.specs.Written as part
+use Rattle.sequence.specs.declared.record.SequenceHeaderObu.{SequenceHeaderObu}
+use Rattle.sequence_reader.specs.Layouts.{numbers-of}
+use Rattle.sequence_reader.specs.declared.read.Part.{Part}
+use Rattle.sequence_reader.specs.declared.read.Outcome.{Outcome}
+use Rattle.sequence_reader.specs.declared.read.Outcome.the-variants.{Done, Refused}
+
+-- an answer: its number and its three values, of which no answer uses the third
+abbrev pub answer-of : Numbered → List ℕ
+answer-of n = n .number ∷ n .first ∷ n .second ∷ 0 ∷ []
+
+-- what a call returns, and leaves in what it is lent: its answer, and the buffer or the record's numbers
+pub record Lent : Type 0 where
+  pub returned : ℕ
+  pub answer : List ℕ
+  pub other : List ℕ
+
+abbrev pub lent : ℕ → List ℕ → List ℕ → Lent
+lent n a b = record { returned = n; answer = a; other = b }
+
+abbrev pub told : Numbered → List ℕ → Lent
+told n b = lent (n .number) (answer-of n) b
+
+-- a writer of an OBU, and of a part
+abbrev pub wrote-obu : Walk → List ℕ → Lent
+wrote-obu w xs = told (obu.answerNumbers (obu.written w xs .answer)) (obu.written w xs .bytes)
+
+abbrev pub wrote-part : Walk → ℕ → List ℕ → Lent
+wrote-part w place xs = told (part.answered (part.written w place xs .answer)) (part.written w place xs .bytes)
+
+-- the reader, with a record's array that holds xs: number 0 and the record's numbers where it accepts; where it refuses, the array is as it was
+abbrev pub was-read : Got SequenceHeaderObu → List ℕ → Lent
+was-read (got h rest) xs = told (plain 0) (numbers-of h)
+was-read (stop r) xs = told (numbered r) xs
+
+-- what the outcome of the reader in Rattle tells, for an inner contract
+abbrev pub outcome-numbers : Outcome → Numbered
+outcome-numbers Done = plain 0
+outcome-numbers (Refused r) = numbered r
+
+-- the first byte of a part, and how many it has
+abbrev pub part-numbers : Part → List ℕ
+part-numbers p = p .place ∷ p .size ∷ []

@@ -1,0 +1,187 @@
+// The public calls. An answer is document 01's number and its values: 0 and the count where a writer is done. Each call also returns the number.
+use crate::cdef_record::cdef_context;
+use crate::cdef_record::cdef_params;
+use crate::header::obu_header;
+use crate::loop_filter_record::loop_filter_context;
+use crate::loop_filter_record::loop_filter_params;
+use crate::quantization_record::quantization_context;
+use crate::quantization_record::quantization_params;
+use crate::restoration_record::lr_context;
+use crate::restoration_record::lr_params;
+use crate::segmentation_record::segmentation_context;
+use crate::segmentation_record::segmentation_params;
+use crate::sequence_record::sequence_header;
+use bits::answer::Numbered;
+use cdef::write_cdef_params;
+use loop_filter::write_loop_filter_params;
+use obu::answer::answer_numbers;
+use obu::delimiter::is_temporal_delimiter;
+use obu::delimiter::write_temporal_delimiter;
+use parts::answer::numbers;
+use quantization::write_quantization_params;
+use restoration::write_lr_params;
+use segmentation::write_segmentation_params;
+use sequence::write::write_sequence_header;
+use sequence_reader::read::Outcome;
+use sequence_reader::read::payload_part;
+use sequence_reader::read::read_sequence_header;
+ghost use mathlib.Core.Path.{_≡_};
+ghost use Rattle.obu.specs.Delimiter.{temporal-delimiter, IsDelimiter, Tells};
+ghost use Rattle.obu.specs.Demand3.{read};
+ghost use Rattle.sequence.specs.Sequence.{sequence-header};
+ghost use Rattle.sequence_reader.specs.Layouts.{header-of, record-of};
+ghost use Rattle.sequence_reader.specs.Payload.{payloadPart};
+ghost use Rattle.friscurella.specs.Parts.{quantization-walk, segmentation-walk, loop-filter-walk, cdef-walk, lr-walk};
+ghost use Rattle.friscurella.specs.Calls.{answer-of, outcome-numbers, part-numbers, lent, wrote-obu, wrote-part, was-read};
+
+// The answer, and its number.
+fn tell(n: Numbered, answer: &mut [u32; 4]) -> u32
+    ensures { λ r. ⌜ (r ≡ n .number) × (now (answer .exit) ≡ answer-of n) ⌝ }
+{
+    *answer = [n.number, n.first, n.second, 0];
+    n.number
+}
+
+// What a reader's outcome tells.
+fn outcome_numbers(o: Outcome) -> Numbered
+    ensures { λ n. ⌜ n ≡ outcome-numbers o ⌝ }
+{
+    match o {
+        Outcome::Done => Numbered {
+            number: 0,
+            first: 0,
+            second: 0,
+        },
+        Outcome::Refused(r) => bits::answer::numbers(r),
+    }
+}
+
+#[no_mangle]
+pub extern "C" fn friscurella_write_sequence_header(
+    record: &[u32; 347],
+    out: &mut [u8],
+    answer: &mut [u32; 4],
+) -> u32
+    ensures { λ r. ⌜ lent r (now (answer .exit)) (now (out .exit)) ≡ wrote-obu (sequence-header .enc (record-of (now («record» .entry)))) (now (out .entry)) ⌝ }
+{
+    let h = sequence_header(record);
+    let a = write_sequence_header(h, out);
+    tell(answer_numbers(a), answer)
+}
+
+#[no_mangle]
+pub extern "C" fn friscurella_write_temporal_delimiter(
+    record: &[u32; 5],
+    out: &mut [u8],
+    answer: &mut [u32; 4],
+) -> u32
+    ensures { λ r. ⌜ lent r (now (answer .exit)) (now (out .exit)) ≡ wrote-obu (temporal-delimiter (header-of (now («record» .entry)))) (now (out .entry)) ⌝ }
+{
+    let h = obu_header(record[0], record[1], record[2], record[3], record[4]);
+    let a = write_temporal_delimiter(h, out);
+    tell(answer_numbers(a), answer)
+}
+
+#[no_mangle]
+pub extern "C" fn friscurella_write_quantization_params(
+    record: &[i32; 13],
+    place: u32,
+    out: &mut [u8],
+    answer: &mut [u32; 4],
+) -> u32
+    ensures { λ r. ⌜ lent r (now (answer .exit)) (now (out .exit)) ≡ wrote-part (quantization-walk (now («record» .entry))) place (now (out .entry)) ⌝ }
+{
+    let q = quantization_params(record);
+    let k = quantization_context(record);
+    let a = write_quantization_params(q, k, out, place);
+    tell(numbers(a), answer)
+}
+
+#[no_mangle]
+pub extern "C" fn friscurella_write_segmentation_params(
+    record: &[i32; 133],
+    place: u32,
+    out: &mut [u8],
+    answer: &mut [u32; 4],
+) -> u32
+    ensures { λ r. ⌜ lent r (now (answer .exit)) (now (out .exit)) ≡ wrote-part (segmentation-walk (now («record» .entry))) place (now (out .entry)) ⌝ }
+{
+    let p = segmentation_params(record);
+    let k = segmentation_context(record);
+    let a = write_segmentation_params(p, k, out, place);
+    tell(numbers(a), answer)
+}
+
+#[no_mangle]
+pub extern "C" fn friscurella_write_loop_filter_params(
+    record: &[i32; 20],
+    place: u32,
+    out: &mut [u8],
+    answer: &mut [u32; 4],
+) -> u32
+    ensures { λ r. ⌜ lent r (now (answer .exit)) (now (out .exit)) ≡ wrote-part (loop-filter-walk (now («record» .entry))) place (now (out .entry)) ⌝ }
+{
+    let p = loop_filter_params(record);
+    let k = loop_filter_context(record);
+    let a = write_loop_filter_params(p, k, out, place);
+    tell(numbers(a), answer)
+}
+
+#[no_mangle]
+pub extern "C" fn friscurella_write_cdef_params(
+    record: &[i32; 38],
+    place: u32,
+    out: &mut [u8],
+    answer: &mut [u32; 4],
+) -> u32
+    ensures { λ r. ⌜ lent r (now (answer .exit)) (now (out .exit)) ≡ wrote-part (cdef-walk (now («record» .entry))) place (now (out .entry)) ⌝ }
+{
+    let p = cdef_params(record);
+    let k = cdef_context(record);
+    let a = write_cdef_params(p, k, out, place);
+    tell(numbers(a), answer)
+}
+
+#[no_mangle]
+pub extern "C" fn friscurella_write_lr_params(
+    record: &[i32; 14],
+    place: u32,
+    out: &mut [u8],
+    answer: &mut [u32; 4],
+) -> u32
+    ensures { λ r. ⌜ lent r (now (answer .exit)) (now (out .exit)) ≡ wrote-part (lr-walk (now («record» .entry))) place (now (out .entry)) ⌝ }
+{
+    let p = lr_params(record);
+    let k = lr_context(record);
+    let a = write_lr_params(p, k, out, place);
+    tell(numbers(a), answer)
+}
+
+// Where the input is refused, the record is as it was.
+#[no_mangle]
+pub extern "C" fn friscurella_read_sequence_header(
+    input: &[u8],
+    record: &mut [u32; 347],
+    answer: &mut [u32; 4],
+) -> u32
+    ensures { λ r. ⌜ lent r (now (answer .exit)) (now («record» .exit)) ≡ was-read (read sequence-header (now (input .entry))) (now («record» .entry)) ⌝ }
+{
+    let o = read_sequence_header(input, record);
+    tell(outcome_numbers(o), answer)
+}
+
+// The payload's first byte and its length.
+#[no_mangle]
+pub extern "C" fn friscurella_payload(input: &[u8], answer: &mut [u32; 2])
+    ensures { λ _. ⌜ now (answer .exit) ≡ part-numbers (payloadPart (now (input .entry))) ⌝ }
+{
+    let p = payload_part(input);
+    *answer = [p.place as u32, p.size as u32];
+}
+
+#[no_mangle]
+pub extern "C" fn friscurella_is_temporal_delimiter(input: &[u8]) -> bool
+    ensures { λ r. ⌜ Tells r (IsDelimiter (now (input .entry))) ⌝ }
+{
+    is_temporal_delimiter(input)
+}
