@@ -9,7 +9,7 @@ use lib.Dec.{ltb, eqb}
 use borrow.Author.Tests.{lt-ltb, le-ltb, eq-eqb, ne-eqb, not-true, not-false}
 use Rattle.bits.specs.Bits.{Bits, from, end}
 use Rattle.bits.specs.Codec.{Codec, Got, got, stop, andThen, choose, absent, inferred, inferredFlag, allowed, checked, via, recode, merged, _▷_, nil}
-use Rattle.bits.specs.Answers.{Answer, value, refused, why, made, Form, found, moved, Reads, Said, said, Reading, reading, Tells, tells}
+use Rattle.bits.specs.Answers.{Result, value, refused, why, made, Form, found, moved, Reads, Said, said, Reading, reading, Tells, tells}
 use Rattle.bits.specs.declared.answer.Cursor.{Cursor}
 use Rattle.bits.specs.declared.answer.Refusal.{Refusal}
 use Rattle.bits.proofs.Laws.{stop-got, got-value, got-rest}
@@ -22,7 +22,7 @@ same-place xs p q e m = let l : end xs - p ≡ end xs - q = sym (length-from xs 
 stop-same : {A : Type 0} {r s : Refusal} → _≡_ {A = Got A} (stop r) (stop s) → r ≡ s
 stop-same h = cc
 
-pub reads-only : {A : Type 0} {d : Bits → Got A} {xs : List ℕ} {c : Cursor} (r s : Answer A) → Reads d xs c r → Reads d xs c s → r ≡ s
+pub reads-only : {A : Type 0} {d : Bits → Got A} {xs : List ℕ} {c : Cursor} (r s : Result A) → Reads d xs c r → Reads d xs c s → r ≡ s
 unfolding found moved
 reads-only {xs = xs} (value a p) (value b q) r s =
     let e = sym (r .finds) ∙ s .finds in
@@ -66,13 +66,13 @@ module _ {A C : Type 0} {t : Codec A} (make : A → C) {xs : List ℕ} {p : Curs
   read-no r = reading (record { finds = rw (r .finds) refl; moves = nil })
 
 -- places that came from one another
-pub further : {C : Type 0} (xs : List ℕ) (p q : Cursor) (r : Answer C) → max (q .at) (end xs) ≡ max (p .at) (end xs) → moved xs q r → moved xs p r
+pub further : {C : Type 0} (xs : List ℕ) (p q : Cursor) (r : Result C) → max (q .at) (end xs) ≡ max (p .at) (end xs) → moved xs q r → moved xs p r
 unfolding moved
 further xs p q (value a d) h m = m ∙ h
 further xs p q (refused y) h m = nil
 
 module _ {A B C : Type 0} (t : Codec A) (k : A → Codec B) (make : A × B → C) {xs : List ℕ} {p : Cursor} where
-  pub read-on : {a : A} {q : Cursor} {r : Answer C} → Reads (t .dec) xs p (value a q) → Reading (λ b. make (a, b)) (k a) xs q r → Reading make (t ▷ k) xs p r
+  pub read-on : {a : A} {q : Cursor} {r : Result C} → Reads (t .dec) xs p (value a q) → Reading (λ b. make (a, b)) (k a) xs q r → Reading make (t ▷ k) xs p r
   unfolding _▷_ found moved
   read-on {a} {q} {r} s (reading g) =
       reading (record { finds = rw (s .finds) (fuse (k a .dec (from xs (q .at))) (λ b. (a, b)) make ∙ g .finds); moves = further xs p q r (s .moves) (g .moves) })
@@ -86,7 +86,7 @@ pub start : {G A : Type 0} {v : Form G A} (t : Codec A) {xs : List ℕ} {c : Cur
 start t {xs} {c} (reading g) = said (record { finds = sym (whole (t .dec (from xs (c .at)))) ∙ g .finds; moves = g .moves })
 
 -- the same bits, seen as another value
-module _ {A B C : Type 0} (to : B → A) (h : A → B) (t : Codec A) {make : B → C} {xs : List ℕ} {c : Cursor} {r : Answer C} where
+module _ {A B C : Type 0} (to : B → A) (h : A → B) (t : Codec A) {make : B → C} {xs : List ℕ} {c : Cursor} {r : Result C} where
   pub struct : Reading (λ a. make (h a)) t xs c r → Reading make (via to h t) xs c r
   unfolding via
   struct (reading g) = reading (record { finds = fuse (t .dec (from xs (c .at))) h make ∙ g .finds; moves = g .moves })
@@ -101,7 +101,7 @@ module _ {A B C : Type 0} (to : B → A) (h : A → B) (t : Codec A) {make : B �
 
 -- a step: its value, and what comes behind it; its refusal; the last one
 module _ {G A B C : Type 0} {v : Form G A} (t : Codec A) (k : A → Codec B) {make : A × B → C} {xs : List ℕ} {p : Cursor} {g : G} where
-  pub on : {a : A} {q : Cursor} {r : Answer C} → Said v (t .dec) xs p g → g ≡ v .val a q → Reading (λ b. make (a, b)) (k a) xs q r → Reading make (t ▷ k) xs p r
+  pub on : {a : A} {q : Cursor} {r : Result C} → Said v (t .dec) xs p g → g ≡ v .val a q → Reading (λ b. make (a, b)) (k a) xs q r → Reading make (t ▷ k) xs p r
   on s e r = read-on t k make (is s e) r
 
   pub halt : {y z : Refusal} → Said v (t .dec) xs p g → g ≡ v .ref z → y ≡ why (v .view g) → Reading make (t ▷ k) xs p (refused y)
@@ -115,7 +115,7 @@ module _ {G A C : Type 0} {v : Form G A} (t : Codec A) {make : A → C} {xs : Li
   last-no s e h = read-no make (is-not s e h)
 
 -- a branch
-module _ {A C : Type 0} (b : Bool) (t u : Codec A) {make : A → C} {xs : List ℕ} {c : Cursor} {r : Answer C} where
+module _ {A C : Type 0} (b : Bool) (t u : Codec A) {make : A → C} {xs : List ℕ} {c : Cursor} {r : Result C} where
   pub yes : b ≡ true → Reading make t xs c r → Reading make (choose b t u) xs c r
   unfolding choose
   yes h (reading g) = reading (record { finds = rw h (g .finds); moves = g .moves })
@@ -130,7 +130,7 @@ module _ {A C : Type 0} (b : Bool) (t u : Codec A) {make : A → C} {xs : List �
   pub no-not : not b ≡ true → Reading make u xs c r → Reading make (choose b t u) xs c r
   no-not h s = no (not-true b h) s
 
-module _ {A C : Type 0} (m n : ℕ) (t u : Codec A) {make : A → C} {xs : List ℕ} {c : Cursor} {r : Answer C} where
+module _ {A C : Type 0} (m n : ℕ) (t u : Codec A) {make : A → C} {xs : List ℕ} {c : Cursor} {r : Result C} where
   pub yes-lt : m < n → Reading make t xs c r → Reading make (choose (ltb m n) t u) xs c r
   yes-lt h s = yes (ltb m n) t u (lt-ltb m n h) s
 
@@ -152,7 +152,7 @@ module _ {A : Type 0} (z : A) {xs : List ℕ} {p : Cursor} where
   pub nothing : {C : Type 0} {make : A → C} {c : C} → c ≡ make z → Reading make (absent z) xs p (value c p)
   nothing {make = make} h = read-last make none h
 
-  pub nothing-on : {B C : Type 0} (k : A → Codec B) {make : A × B → C} {r : Answer C} → Reading (λ b. make (z, b)) (k z) xs p r → Reading make (absent z ▷ k) xs p r
+  pub nothing-on : {B C : Type 0} (k : A → Codec B) {make : A × B → C} {r : Result C} → Reading (λ b. make (z, b)) (k z) xs p r → Reading make (absent z ▷ k) xs p r
   nothing-on k {make} s = read-on (absent z) k make none s
 
 module _ (e i x : ℕ) {xs : List ℕ} {p : Cursor} where
@@ -163,7 +163,7 @@ module _ (e i x : ℕ) {xs : List ℕ} {p : Cursor} where
   pub known : {C : Type 0} {make : ℕ → C} {c : C} → c ≡ make x → Reading make (inferred e i x) xs p (value c p)
   known {make = make} h = read-last make fixed h
 
-  pub known-on : {B C : Type 0} (k : ℕ → Codec B) {make : ℕ × B → C} {r : Answer C} → Reading (λ b. make (x, b)) (k x) xs p r → Reading make (inferred e i x ▷ k) xs p r
+  pub known-on : {B C : Type 0} (k : ℕ → Codec B) {make : ℕ × B → C} {r : Result C} → Reading (λ b. make (x, b)) (k x) xs p r → Reading make (inferred e i x ▷ k) xs p r
   known-on k {make} s = read-on (inferred e i x) k make fixed s
 
 module _ (e i : ℕ) (x : Bool) {xs : List ℕ} {p : Cursor} where
@@ -174,28 +174,28 @@ module _ (e i : ℕ) (x : Bool) {xs : List ℕ} {p : Cursor} where
   pub known-flag : {C : Type 0} {make : Bool → C} {c : C} → c ≡ make x → Reading make (inferredFlag e i x) xs p (value c p)
   known-flag {make = make} h = read-last make fixed-flag h
 
-  pub known-flag-on : {B C : Type 0} (k : Bool → Codec B) {make : Bool × B → C} {r : Answer C}
+  pub known-flag-on : {B C : Type 0} (k : Bool → Codec B) {make : Bool × B → C} {r : Result C}
       → Reading (λ b. make (x, b)) (k x) xs p r → Reading make (inferredFlag e i x ▷ k) xs p r
   known-flag-on k {make} s = read-on (inferredFlag e i x) k make fixed-flag s
 
 -- the answer of a call, passed on
-pub pass : {G A : Type 0} {v : Form G A} (t : Codec A) {xs : List ℕ} {c : Cursor} {g : G} {r : Answer A} → Said v (t .dec) xs c g → r ≡ v .view g → Reading (λ (a : A). a) t xs c r
+pub pass : {G A : Type 0} {v : Form G A} (t : Codec A) {xs : List ℕ} {c : Cursor} {g : G} {r : Result A} → Said v (t .dec) xs c g → r ≡ v .view g → Reading (λ (a : A). a) t xs c r
 pass t {xs} {c} (said g) h = rw h (reading (record { finds = whole (t .dec (from xs (c .at))) ∙ g .finds; moves = g .moves }))
 
 -- the rest, left to a function
-pub pass-rest : {G A B : Type 0} {v : Form G B} {make : A → B} {t : Codec A} {xs : List ℕ} {c : Cursor} {g : G} {r : Answer B}
+pub pass-rest : {G A B : Type 0} {v : Form G B} {make : A → B} {t : Codec A} {xs : List ℕ} {c : Cursor} {g : G} {r : Result B}
     → Tells v make t xs c g → r ≡ v .view g → Reading make t xs c r
 pass-rest (tells s) h = rw h s
 
 -- a check that was made before the first bit was written, and that what is read meets
-pub then-checked : {A C : Type 0} (test : A → Bool) (z : Refusal) (t : Codec A) {make : A → C} {xs : List ℕ} {c : Cursor} {r : Answer C}
+pub then-checked : {A C : Type 0} (test : A → Bool) (z : Refusal) (t : Codec A) {make : A → C} {xs : List ℕ} {c : Cursor} {r : Result C}
     → Reading make t xs c r → Reading make (checked test z t) xs c r
 unfolding checked
 then-checked test z t (reading g) = reading (record { finds = g .finds; moves = g .moves })
 
 -- a choice by a test that a function makes, with the answer a
 module _ {G A B C : Type 0} {v : Form G A} {a : Bool} (b : Bool) (t u : Codec A) {xs : List ℕ} {p : Cursor} {g : G} where
-  pub on-by : (k : A → Codec B) {make : A × B → C} {w : A} {q : Cursor} {r : Answer C}
+  pub on-by : (k : A → Codec B) {make : A × B → C} {w : A} {q : Cursor} {r : Result C}
       → a ≡ b → Said v (choose a t u .dec) xs p g → g ≡ v .val w q → Reading (λ b. make (w, b)) (k w) xs q r → Reading make (choose b t u ▷ k) xs p r
   on-by k h s e r = on (choose b t u) k (rw h at s) e r
 
@@ -210,7 +210,7 @@ module _ {G A C : Type 0} {v : Form G A} {a : Bool} (b : Bool) (t u : Codec A) {
   pub last-no-by : {y z : Refusal} → a ≡ b → Said v (choose a t u .dec) xs p g → g ≡ v .ref z → y ≡ why (v .view g) → Reading make (choose b t u) xs p (refused y)
   last-no-by h s e w = last-no (choose b t u) (rw h at s) e w
 
-module _ {A C : Type 0} {a : Bool} (b : Bool) (t u : Codec A) {make : A → C} {xs : List ℕ} {c : Cursor} {r : Answer C} where
+module _ {A C : Type 0} {a : Bool} (b : Bool) (t u : Codec A) {make : A → C} {xs : List ℕ} {c : Cursor} {r : Result C} where
   pub yes-by : a ≡ b → a ≡ true → Reading make t xs c r → Reading make (choose b t u) xs c r
   yes-by h e s = yes b t u (sym h ∙ e) s
 
@@ -233,7 +233,7 @@ got-same {A} {C = C} (got a rest) h k make = go (k (h a) rest)
     go (stop r) = refl
 got-same (stop r) h k make = refl
 
-pub struct-on : {A B C D : Type 0} (to : B → A) (h : A → B) (t : Codec A) (k : B → Codec C) {make : B × C → D} {xs : List ℕ} {c : Cursor} {r : Answer D}
+pub struct-on : {A B C D : Type 0} (to : B → A) (h : A → B) (t : Codec A) (k : B → Codec C) {make : B × C → D} {xs : List ℕ} {c : Cursor} {r : Result D}
     → Reading (λ (p : A × C). make (h (p .0), p .1)) (t ▷ λ a. k (h a)) xs c r → Reading make (via to h t ▷ k) xs c r
 unfolding via _▷_
 struct-on to h t k {make} {xs} {c} (reading g) = reading (record { finds = got-same (t .dec (from xs (c .at))) h (λ b. k b .dec) make ∙ g .finds; moves = g .moves })
@@ -253,7 +253,7 @@ got-assoc {A} {B} {C} (got a rest) u k make = go (u a rest)
     go (got b end) = on-two b (k (a, b) end)
     go (stop r) = refl
 
-pub group-on : {A B C D : Type 0} (t : Codec A) (u : A → Codec B) (k : A × B → Codec C) {make : (A × B) × C → D} {xs : List ℕ} {c : Cursor} {r : Answer D}
+pub group-on : {A B C D : Type 0} (t : Codec A) (u : A → Codec B) (k : A × B → Codec C) {make : (A × B) × C → D} {xs : List ℕ} {c : Cursor} {r : Result D}
     → Reading (λ (p : A × (B × C)). make ((p .0, p .1 .0), p .1 .1)) (t ▷ λ a. u a ▷ λ b. k (a, b)) xs c r → Reading make ((t ▷ u) ▷ k) xs c r
 unfolding _▷_
 group-on t u k {make} {xs} {c} (reading g) = reading (record { finds = got-assoc (t .dec (from xs (c .at))) (λ a. u a .dec) (λ p. k p .dec) make ∙ g .finds; moves = g .moves })
@@ -274,9 +274,9 @@ module _ {A : Type 0} (test : A → Bool) (z : Refusal) (t : Codec A) {xs : List
 
 -- What a loop carries: of what d reads from c on, the table t is left, from p on, and what it finds goes into `make`.
 pub record Left {A B : Type 0} (d : Bits → Got B) (xs : List ℕ) (c : Cursor) (t : Codec A) (p : Cursor) (make : A → B) : Type 0 where
-  pub rest : (r : Answer B) → Reading make t xs p r → Reads d xs c r
+  pub rest : (r : Result B) → Reading make t xs p r → Reads d xs c r
 
-whole-reads : {A : Type 0} (t : Codec A) {xs : List ℕ} {c : Cursor} (r : Answer A) → Reading (λ (a : A). a) t xs c r → Reads (t .dec) xs c r
+whole-reads : {A : Type 0} (t : Codec A) {xs : List ℕ} {c : Cursor} (r : Result A) → Reading (λ (a : A). a) t xs c r → Reads (t .dec) xs c r
 whole-reads t {xs} {c} r (reading g) = record { finds = sym (whole (t .dec (from xs (c .at)))) ∙ g .finds; moves = g .moves }
 
 pub left-all : {A : Type 0} (t : Codec A) {xs : List ℕ} {c : Cursor} → Left (t .dec) xs c t c (λ (a : A). a)
@@ -286,7 +286,7 @@ got-remade : {A B : Type 0} (x : Got A) {make make′ : A → B} → ((a : A) �
 got-remade (got a rest) h = ap (λ (b : _). got b rest) (h a)
 got-remade (stop r) h = refl
 
-remade : {A B : Type 0} {t : Codec A} {make make′ : A → B} {xs : List ℕ} {c : Cursor} {r : Answer B} → ((a : A) → make a ≡ make′ a) → Reading make t xs c r → Reading make′ t xs c r
+remade : {A B : Type 0} {t : Codec A} {make make′ : A → B} {xs : List ℕ} {c : Cursor} {r : Result B} → ((a : A) → make a ≡ make′ a) → Reading make t xs c r → Reading make′ t xs c r
 remade {t = t} {xs = xs} {c} h (reading g) = reading (record { finds = sym (got-remade (t .dec (from xs (c .at))) h) ∙ g .finds; moves = g .moves })
 
 pub left-remade : {A B : Type 0} {d : Bits → Got B} {xs : List ℕ} {c p : Cursor} {t : Codec A} {make make′ : A → B}

@@ -39,16 +39,16 @@ numbered Long = plain 8
 abbrev pub counted : ℕ → ℕ
 counted n = min n 4294967295
 
--- An answer: a value (number 0) and the place behind it, or a refusal.
-pub data Answer (A : Type 0) : Type 0 where
-  value : A → Cursor → Answer A
-  refused : Refusal → Answer A
+-- What a step comes to: a value and the place behind it, or a refusal.
+pub data Result (A : Type 0) : Type 0 where
+  value : A → Cursor → Result A
+  refused : Refusal → Result A
 
-abbrev pub why : {A : Type 0} → Answer A → Refusal
+abbrev pub why : {A : Type 0} → Result A → Refusal
 why (value a c) = Ends
 why (refused r) = r
 
-abbrev pub made : {G A : Type 0} → (A → Cursor → G) → (Refusal → G) → Answer A → G
+abbrev pub made : {G A : Type 0} → (A → Cursor → G) → (Refusal → G) → Result A → G
 made val ref (value a c) = val a c
 made val ref (refused r) = ref r
 
@@ -56,12 +56,12 @@ made val ref (refused r) = ref r
 pub record Form (G A : Type 0) : Type 0 where
   pub val : A → Cursor → G
   pub ref : Refusal → G
-  pub view : G → Answer A
+  pub view : G → Result A
   pub val-is : (a : A) (c : Cursor) → view (val a c) ≡ value a c
   pub ref-is : (r : Refusal) → view (ref r) ≡ refused r
   pub seen : (g : G) → made val ref (view g) ≡ g
 
-abbrev viewStep : Step → Answer Nil
+abbrev viewStep : Step → Result Nil
 viewStep (S.Next c) = value nil c
 viewStep (S.Refused r) = refused r
 
@@ -72,7 +72,7 @@ seenStep (S.Refused r) = refl
 abbrev pub step : Form Step Nil
 step = record { val = λ _ c. S.Next c; ref = S.Refused; view = viewStep; val-is = λ _ c. refl; ref-is = λ r. refl; seen = seenStep }
 
-abbrev viewNumber : GotNumber → Answer ℕ
+abbrev viewNumber : GotNumber → Result ℕ
 viewNumber (N.Value v c) = value v c
 viewNumber (N.Refused r) = refused r
 
@@ -83,7 +83,7 @@ seenNumber (N.Refused r) = refl
 abbrev pub number : Form GotNumber ℕ
 number = record { val = N.Value; ref = N.Refused; view = viewNumber; val-is = λ v c. refl; ref-is = λ r. refl; seen = seenNumber }
 
-abbrev viewFlag : GotFlag → Answer Bool
+abbrev viewFlag : GotFlag → Result Bool
 viewFlag (F.Value v c) = value v c
 viewFlag (F.Refused r) = refused r
 
@@ -94,7 +94,7 @@ seenFlag (F.Refused r) = refl
 abbrev pub flag : Form GotFlag Bool
 flag = record { val = F.Value; ref = F.Refused; view = viewFlag; val-is = λ v c. refl; ref-is = λ r. refl; seen = seenFlag }
 
-abbrev viewSigned : GotSigned → Answer ℤ
+abbrev viewSigned : GotSigned → Result ℤ
 viewSigned (I.Value v c) = value v c
 viewSigned (I.Refused r) = refused r
 
@@ -105,7 +105,7 @@ seenSigned (I.Refused r) = refl
 abbrev pub signed : Form GotSigned ℤ
 signed = record { val = I.Value; ref = I.Refused; view = viewSigned; val-is = λ v c. refl; ref-is = λ r. refl; seen = seenSigned }
 
-abbrev viewSize : GotSize → Answer ℕ
+abbrev viewSize : GotSize → Result ℕ
 viewSize (Z.Value v c) = value v c
 viewSize (Z.Refused r) = refused r
 
@@ -117,17 +117,17 @@ abbrev pub size : Form GotSize ℕ
 size = record { val = Z.Value; ref = Z.Refused; view = viewSize; val-is = λ v c. refl; ref-is = λ r. refl; seen = seenSize }
 
 -- what an answer says of the bytes xs: the value and the bits from its place on, or the refusal
-unfoldable pub found : {A : Type 0} → List ℕ → Answer A → Got A
+unfoldable pub found : {A : Type 0} → List ℕ → Result A → Got A
 found xs (value a c) = got a (from xs (c .at))
 found xs (refused r) = stop r
 
 -- a place that came from c: inside the bytes if c was, and c itself if c was behind them
-unfoldable pub moved : {A : Type 0} → List ℕ → Cursor → Answer A → Type 0
+unfoldable pub moved : {A : Type 0} → List ℕ → Cursor → Result A → Type 0
 moved xs c (value a d) = max (d .at) (end xs) ≡ max (c .at) (end xs)
 moved xs c (refused r) = Nil
 
 -- the answer r is what d reads of the bytes xs from the cursor c on
-pub record Reads {A : Type 0} (d : Bits → Got A) (xs : List ℕ) (c : Cursor) (r : Answer A) : Type 0 where
+pub record Reads {A : Type 0} (d : Bits → Got A) (xs : List ℕ) (c : Cursor) (r : Result A) : Type 0 where
   pub finds : d (from xs (c .at)) ≡ found xs r
   pub moves : moved xs c r
 
@@ -137,7 +137,7 @@ pub data Said {G A : Type 0} (v : Form G A) (d : Bits → Got A) (xs : List ℕ)
   said : Reads d xs c (v .view g) → Said v d xs c g
 
 -- the answer r is what the table t reads from c on, made into a larger value
-pub data Reading {A B : Type 0} (make : A → B) (t : Codec A) (xs : List ℕ) (c : Cursor) (r : Answer B) : Type 0 where
+pub data Reading {A B : Type 0} (make : A → B) (t : Codec A) (xs : List ℕ) (c : Cursor) (r : Result B) : Type 0 where
   reading : Reads (λ bs. andThen (t .dec bs) (λ a rest. got (make a) rest)) xs c r → Reading make t xs c r
 
 -- the contract of a function that reads the rest of a table: what was read before goes into `make`

@@ -5,3 +5,4 @@ pub mod Codec
 pub mod Codes
 pub mod Lawful
 pub mod Answers
+pub mod Written

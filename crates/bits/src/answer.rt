@@ -1,6 +1,7 @@
 // A place in a slice, what each step of a walk answers, and the numbers of document 01.
 ghost use mathlib.Core.Path.{_≡_};
 ghost use Rattle.bits.specs.Answers.{plain, numbered, counted, why, step, number, flag, signed, size};
+ghost use Rattle.bits.specs.Written.{answerNumbers};
 
 // Places end here, at 2^63.
 pub const LIMIT: usize = 9223372036854775808;
@@ -30,7 +31,15 @@ pub enum Refusal {
     Long,
 }
 
-// A refusal as document 01 tables it.
+// What a public writer answers.
+pub enum Answer {
+    // All was written: so many bytes; of a part, the bit behind it.
+    Done(u32),
+    // Why nothing was written.
+    Refused(Refusal),
+}
+
+// An answer as document 01 tables it.
 pub struct Numbered {
     pub number: u32,
     pub first: u32,
@@ -88,6 +97,19 @@ pub fn numbers(r: Refusal) -> Numbered
         Refusal::Size => plain(6),
         Refusal::Trailing => plain(7),
         Refusal::Long => plain(8),
+    }
+}
+
+pub fn answer_numbers(a: Answer) -> Numbered
+    ensures { λ n. ⌜ n ≡ answerNumbers a ⌝ }
+{
+    match a {
+        Answer::Done(value) => Numbered {
+            number: 0,
+            first: value,
+            second: 0,
+        },
+        Answer::Refused(r) => numbers(r),
     }
 }
 

@@ -9,7 +9,7 @@ use lib.Dec.{ltb, eqb}
 use borrow.Author.Tests.{lt-ltb, le-ltb, eq-eqb, ne-eqb, not-true, not-false}
 use Rattle.bits.specs.Bits.{Bits, from}
 use Rattle.bits.specs.Codec.{Codec, Got, got, stop, andThen, f, absent, inferred, inferredFlag, checked, choose, select, via, _▷_, nil}
-use Rattle.bits.specs.Answers.{Answer, value, refused, why, Form, found, moved, Said, Reads, Reading, reading}
+use Rattle.bits.specs.Answers.{Result, value, refused, why, Form, found, moved, Said, Reads, Reading, reading}
 use Rattle.bits.specs.declared.answer.Cursor.{Cursor}
 use Rattle.bits.specs.declared.answer.Refusal.{Refusal}
 use Rattle.bits.specs.declared.answer.Step.{Step}
@@ -20,7 +20,7 @@ use Rattle.bits.proofs.Reading.{reads-only, is, is-not, read-on, read-halt, rea
 use Rattle.fill.specs.Fills.{Way, Layout, made, at, whole, _▸_, _∥_, of, beside, Fills, fills}
 
 -- One answer: two steps that the contract allows are equal, and so is what they leave, where they are not refused.
-abbrev step-of : {M : Type 0} → Answer M → Step
+abbrev step-of : {M : Type 0} → Result M → Step
 step-of (value m c) = Next c
 step-of (refused r) = Refused r
 
@@ -94,7 +94,7 @@ got-remade : {A B : Type 0} (x : Got A) {make make′ : A → B} → ((a : A) �
 got-remade (got a rest) h = ap (λ (b : _). got b rest) (h a)
 got-remade (stop r) h = refl
 
-remade : {A B : Type 0} {t : Codec A} {make make′ : A → B} {xs : List ℕ} {c : Cursor} {r : Answer B} → ((a : A) → make′ a ≡ make a) → Reading make t xs c r → Reading make′ t xs c r
+remade : {A B : Type 0} {t : Codec A} {make make′ : A → B} {xs : List ℕ} {c : Cursor} {r : Result B} → ((a : A) → make′ a ≡ make a) → Reading make t xs c r → Reading make′ t xs c r
 remade {t = t} {xs = xs} {c} h (reading g) = reading (record { finds = got-remade (t .dec (from xs (c .at))) h ∙ g .finds; moves = g .moves })
 
 module _ {A B M : Type 0} (out : B → A) (back : A → B) (l : Layout M A) (t : Codec A) {xs : List ℕ} {c : Cursor} {s : Step} {m z : M} (e : (a : A) → out (back a) ≡ a) where

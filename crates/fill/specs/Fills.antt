@@ -8,7 +8,7 @@ use lib.IntN.{ℤ, pos, negsuc}
 use mir.Val.{boolByte}
 use Rattle.bits.specs.Bits.{Bits}
 use Rattle.bits.specs.Codec.{Got, got, andThen, uncons}
-use Rattle.bits.specs.Answers.{Answer, value, refused, Reads}
+use Rattle.bits.specs.Answers.{Result, value, refused, Reads}
 use Rattle.bits.specs.declared.answer.Cursor.{Cursor}
 use Rattle.bits.specs.declared.answer.Step.{Step}
 use Rattle.bits.specs.declared.answer.Step.the-variants.{Next, Refused}
@@ -81,7 +81,7 @@ each z l zero i n = nowhere []
 each z l (suc k) i n = of (uncons z) (λ p. p .0 ∷ p .1) (cond (ltb i n) (l i) (nowhere z) ▸ each z l k (suc i) n)
 
 -- a step and what it left in the place
-abbrev pub beside : {M : Type 0} → Step → M → Answer M
+abbrev pub beside : {M : Type 0} → Step → M → Result M
 beside (Next c) m = value m c
 beside (Refused r) m = refused r
 

@@ -7,6 +7,7 @@ use bits::answer::Step;
 use bits::answer::why_flag;
 use bits::answer::why_number;
 use bits::answer::why_signed;
+use bits::number::smaller;
 ghost use mathlib.Core.Path.{_≡_};
 ghost use Prim.Native.Nat.{min};
 ghost use Rattle.bits.specs.Codec.{f, flag};
@@ -95,10 +96,4 @@ pub fn sign(s: &[u8], c: Cursor, v: &mut i32) -> Step
     };
     *v = x as i32;
     Step::Next(c)
-}
-
-fn smaller(a: u32, b: u32) -> u32
-    ensures { λ r. ⌜ r ≡ min a b ⌝ }
-{
-    if a < b { a } else { b }
 }

@@ -6,8 +6,9 @@ use native.Mathlib.Omega.{arith}
 use lib.IntN.{ℤ}
 use Rattle.bits.specs.Walk.{Walk, run}
 use Rattle.bits.specs.Codec.{Got, got, stop}
+use Rattle.bits.specs.Written.{answerNumbers}
 use Rattle.bits.specs.declared.answer.Numbered.{Numbered}
-use Rattle.obu.specs.declared.answer.Answer as O
+use Rattle.bits.specs.declared.answer.Answer as O
 use Rattle.obu.specs.declared.header.ObuHeader.{ObuHeader}
 use Rattle.obu.specs.Delimiter.{temporal-delimiter}
 use Rattle.obu.specs.Demand3.{read}
@@ -52,7 +53,7 @@ pub done-is : (o : Outcome) → o ≡ Done → record { number = 0; first = 0; s
 done-is o e = rw e
 
 -- a writer's answer, told by its numbers
-obu-crosses : {w : Walk} (v : Walk) {xs ys l : List ℕ} {m : ℕ} {r : O.Answer} {n : Numbered} → run w ≡ run v → obu.Writes w xs r ys → n ≡ obu.answerNumbers r → (m ≡ n .number) × (l ≡ answer-of n) → lent m l ys ≡ wrote-obu v xs
+obu-crosses : {w : Walk} (v : Walk) {xs ys l : List ℕ} {m : ℕ} {r : O.Answer} {n : Numbered} → run w ≡ run v → obu.Writes w xs r ys → n ≡ answerNumbers r → (m ≡ n .number) × (l ≡ answer-of n) → lent m l ys ≡ wrote-obu v xs
 unfolding obu.written
 obu-crosses v e (obu.writes a b) k h = rw (← e) (rw (h .0, h .1, k, a, b))
 
@@ -61,7 +62,7 @@ unfolding part.written
 part-crosses v e (part.writes a b) k h = rw (← e) (rw (h .0, h .1, k, a, b))
 
 module _ {out end l : List ℕ} {m : ℕ} {n : Numbered} (tells : (m ≡ n .number) × (l ≡ answer-of n)) where
-  module _ {r : O.Answer} (is : n ≡ obu.answerNumbers r) where
+  module _ {r : O.Answer} (is : n ≡ answerNumbers r) where
     pub sequence-crosses : (xs : List ℕ) (h : SequenceHeaderObu) → run (sequence-header .enc h) ≡ run (sequence-header .enc (record-of xs)) → obu.Writes (sequence-header .enc h) out r end → lent m l end ≡ wrote-obu (sequence-header .enc (record-of xs)) out
     sequence-crosses xs h e w = obu-crosses _ e w is tells
 

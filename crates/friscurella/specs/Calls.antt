@@ -4,6 +4,7 @@ use Prim.Native.Nat.{ℕ}
 use Rattle.bits.specs.Walk.{Walk}
 use Rattle.bits.specs.Codec.{Got, got, stop}
 use Rattle.bits.specs.Answers.{numbered, plain}
+use Rattle.bits.specs.Written.{answerNumbers}
 use Rattle.bits.specs.declared.answer.Numbered.{Numbered}
 use Rattle.obu.specs.Writer as obu
 use Rattle.parts.specs.Written as part
@@ -31,7 +32,7 @@ told n b = lent (n .number) (answer-of n) b
 
 -- a writer of an OBU, and of a part
 abbrev pub wrote-obu : Walk → List ℕ → Lent
-wrote-obu w xs = told (obu.answerNumbers (obu.written w xs .answer)) (obu.written w xs .bytes)
+wrote-obu w xs = told (answerNumbers (obu.written w xs .answer)) (obu.written w xs .bytes)
 
 abbrev pub wrote-part : Walk → ℕ → List ℕ → Lent
 wrote-part w place xs = told (part.answered (part.written w place xs .answer)) (part.written w place xs .bytes)

@@ -9,7 +9,7 @@ use Rattle.bits.specs.Bits.{bitsOf, toBits, bitAt}
 use Rattle.bits.specs.Walk.{wrote, run, join, bound}
 use Rattle.bits.specs.Codec.{_▷_, choose, via, allowed, f, flag, zeros, absent, merged, nil}
 use Rattle.bits.specs.Codes.{leb128, leb-step, tooLong}
-use Rattle.obu.specs.declared.answer.Answer.{Answer}
+use Rattle.bits.specs.declared.answer.Answer.{Answer}
 use Rattle.obu.specs.declared.header.ObuHeader.{ObuHeader}
 use Rattle.obu.specs.Header.{expected-type, obu-extension-header, header-end, header-table, obu-header}
 use Rattle.obu.specs.Frame.{obu-size}

@@ -14,10 +14,11 @@ use Rattle.bits.specs.Lawful.{strict, Lawful, Least, same, shorter}
 use Rattle.bits.specs.declared.answer.Refusal.the-variants.{Long}
 use Rattle.bits.proofs.Laws.{stop-got, got-value}
 use Rattle.bits.proofs.Places.{length-bitsOf}
-use Rattle.obu.specs.declared.answer.Answer.the-variants.{Done}
+use Rattle.bits.specs.declared.answer.Answer.the-variants.{Done}
 use Rattle.obu.specs.declared.header.ObuHeader.{ObuHeader}
 use Rattle.obu.specs.Obu.{Spelling, obu}
-use Rattle.obu.specs.Writer.{wholeBytes, written}
+use Rattle.bits.specs.Written.{wholeBytes}
+use Rattle.obu.specs.Writer.{written}
 use Rattle.obu.specs.Demand3.{AreBytes, read, Consistent, Spells, Gives, Shortest, Demand3}
 use Rattle.obu.proofs.Bytes.{pack, pack-length, pack-bytes, bitsOf-pack, bitsOf-same, put-bytes}
 use Rattle.obu.proofs.Spellings.{accepted, spelled, own, shortest, aligned}

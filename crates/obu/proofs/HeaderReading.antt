@@ -8,7 +8,7 @@ use borrow.Author.Tests.{eq-eqb, ne-eqb}
 use Rattle.bits.specs.Bits.{Bits, fromBits}
 use Rattle.bits.specs.Elements.{obu-type}
 use Rattle.bits.specs.Codec.{Codec, Got, got, stop, andThen, takeBits, f, zeros, _▷_, Nil, nil}
-use Rattle.bits.specs.Answers.{Answer, value, why, found, moved, Said, said, Reading, step, number}
+use Rattle.bits.specs.Answers.{Result, value, why, found, moved, Said, said, Reading, step, number}
 use Rattle.bits.specs.declared.answer.Cursor.{Cursor}
 use Rattle.bits.specs.declared.answer.Refusal.{Refusal}
 use Rattle.bits.specs.declared.answer.Refusal.the-variants.{Inconsistent, Reserved}
@@ -56,7 +56,7 @@ module _ (t : ℕ) {xs : List ℕ} {c : Cursor} {g : GotNumber} where
 
 -- a step that has no value of its own, and what comes behind it; and the last one
 module _ (t : Codec Nil) {xs : List ℕ} {p q : Cursor} {g : Step} where
-  pub on-step : {B C : Type 0} (k : Nil → Codec B) {make : Nil × B → C} {r : Answer C} → Said step (t .dec) xs p g → g ≡ S.Next q → Reading (λ b. make (nil, b)) (k nil) xs q r → Reading make (t ▷ k) xs p r
+  pub on-step : {B C : Type 0} (k : Nil → Codec B) {make : Nil × B → C} {r : Result C} → Said step (t .dec) xs p g → g ≡ S.Next q → Reading (λ b. make (nil, b)) (k nil) xs q r → Reading make (t ▷ k) xs p r
   on-step k s e r = on t k {a = nil} s e r
 
   pub last-step : {C : Type 0} {make : Nil → C} {c : C} → Said step (t .dec) xs p g → g ≡ S.Next q → c ≡ make nil → Reading make t xs p (value c q)

@@ -15,10 +15,11 @@ use Rattle.bits.specs.declared.answer.Refusal.{Refusal}
 use Rattle.bits.specs.declared.answer.Step.the-variants.{Next}
 use Rattle.bits.specs.declared.answer.Refusal.the-variants.{Short, Long}
 use Rattle.bits.proofs.Places.{length-bitsOf}
-use Rattle.obu.specs.declared.answer.Answer.{Answer}
-use Rattle.obu.specs.declared.answer.Answer.the-variants.{Done, Refused}
+use Rattle.bits.specs.declared.answer.Answer.{Answer}
+use Rattle.bits.specs.declared.answer.Answer.the-variants.{Done, Refused}
 use Rattle.bits.specs.Answers.{counted}
-use Rattle.obu.specs.Writer.{wholeBytes, answerTo, written, Writes, writes, verdict}
+use Rattle.bits.specs.Written.{wholeBytes}
+use Rattle.obu.specs.Writer.{answerTo, written, Writes, writes, verdict}
 use Rattle.obu.specs.Delimiter.{octets}
 use Rattle.obu.specs.Demand3.{AreBytes}
 use Rattle.obu.proofs.Bytes.{put-bytes}

@@ -18,10 +18,11 @@ use Rattle.bits.specs.declared.answer.Step.the-variants.{Next}
 use Rattle.bits.proofs.Laws.{join-inv}
 use Rattle.bits.proofs.Walking.{answer, bytes, kept, bounded}
 use Rattle.bits.proofs.Storing.{put-beyond}
-use Rattle.obu.specs.declared.answer.Answer.{Answer}
-use Rattle.obu.specs.declared.answer.Answer.the-variants.{Done, Refused}
+use Rattle.bits.specs.declared.answer.Answer.{Answer}
+use Rattle.bits.specs.declared.answer.Answer.the-variants.{Done, Refused}
 use Rattle.bits.specs.Answers.{counted}
-use Rattle.obu.specs.Writer.{wholeBytes, afterWalk, answerTo, stored, Written, written, Writes, writes, afterStep, verdict}
+use Rattle.bits.specs.Written.{wholeBytes, Written}
+use Rattle.obu.specs.Writer.{afterWalk, answerTo, stored, written, Writes, writes, afterStep, verdict}
 use Rattle.obu.proofs.Headers.{cut}
 
 -- One answer, and one content of the slice

@@ -1,11 +1,11 @@
 -- The answer of a function that reads an OBU header, as the readers of bits have theirs.
 use mathlib.Core.Path.{_≡_, refl}
-use Rattle.bits.specs.Answers.{Answer, value, refused, made, Form}
+use Rattle.bits.specs.Answers.{Result, value, refused, made, Form}
 use Rattle.obu.specs.declared.header.ObuHeader.{ObuHeader}
 use Rattle.obu.specs.declared.read.GotHeader.{GotHeader}
 use Rattle.obu.specs.declared.read.GotHeader.the-variants.{Value, Refused}
 
-abbrev viewHeader : GotHeader → Answer ObuHeader
+abbrev viewHeader : GotHeader → Result ObuHeader
 viewHeader (Value h c) = value h c
 viewHeader (Refused r) = refused r
 

@@ -10,7 +10,7 @@ use Rattle.bits.specs.Bits.{Bits, bitsOf}
 use Rattle.bits.specs.Walk.{done, run}
 use Rattle.bits.specs.Codec.{Codec, Got, got, stop, Nil}
 use Rattle.bits.specs.declared.answer.Refusal.the-variants.{Long}
-use Rattle.obu.specs.declared.answer.Answer.the-variants.{Done}
+use Rattle.bits.specs.declared.answer.Answer.the-variants.{Done}
 use Rattle.obu.specs.Writer.{written}
 
 -- numbers that are bytes

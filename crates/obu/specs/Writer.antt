@@ -2,27 +2,18 @@
 use mathlib.Core.Path.{_≡_}
 use mathlib.Core.List.{List}
 use mathlib.Core.Bool.{cond}
-use Prim.Native.Nat.{ℕ, _+_, _/_}
+use Prim.Native.Nat.{ℕ}
 use lib.Dec.{ltb}
 use lib.ListN.{length}
 use Rattle.bits.specs.Bits.{Bits, put}
 use Rattle.bits.specs.Walk.{Walk, End, done, refused, run}
-use Rattle.bits.specs.Answers.{numbered, counted}
-use Rattle.bits.specs.declared.answer.Numbered.{Numbered}
+use Rattle.bits.specs.Answers.{counted}
+use Rattle.bits.specs.Written.{Written, wholeBytes}
+use Rattle.bits.specs.declared.answer.Answer.{Answer}
+use Rattle.bits.specs.declared.answer.Answer.the-variants.{Done, Refused}
 use Rattle.bits.specs.declared.answer.Refusal.the-variants.{Short, Long}
 use Rattle.bits.specs.declared.answer.Step.{Step}
 use Rattle.bits.specs.declared.answer.Step.the-variants.{Next, Refused as Halted}
-use Rattle.obu.specs.declared.answer.Answer.{Answer}
-use Rattle.obu.specs.declared.answer.Answer.the-variants.{Done, Refused}
-
--- Document 01, "Numbers returned": 0 and the bytes written, or the refusal's.
-abbrev pub answerNumbers : Answer → Numbered
-answerNumbers (Done n) = record { number = 0; first = n; second = 0 }
-answerNumbers (Refused r) = numbered r
-
--- the bytes that n bits take
-abbrev pub wholeBytes : ℕ → ℕ
-wholeBytes n = (n + 7) / 8
 
 -- The answer to a walk that ended so, with n bits, where the slice has len bytes: refusal 8; then the walk's; then 3, with the least length that is
 -- enough; else the number of bytes.
@@ -37,10 +28,6 @@ answerTo e n len = cond (ltb 65536 len) (Refused Long) (afterWalk e n len)
 abbrev pub stored : Answer → Bits → List ℕ → List ℕ
 stored (Refused r) bs xs = xs
 stored (Done n) bs xs = put xs 0 bs
-
-pub record Written : Type 0 where
-  pub answer : Answer
-  pub bytes : List ℕ
 
 unfoldable pub written : Walk → List ℕ → Written
 written w xs = let a = answerTo (run w .end) (length (run w .bits)) (length xs) in record { answer = a; bytes = stored a (run w .bits) xs }

@@ -1,31 +1,10 @@
-// What a public writer answers, and how it is known before the slice is written.
-use bits::answer::Numbered;
+// What a public writer of an OBU answers, known before the slice is written.
+use bits::answer::Answer;
 use bits::answer::Refusal;
 use bits::answer::Step;
 use bits::answer::counted;
-use bits::answer::numbers;
 ghost use mathlib.Core.Path.{_≡_};
-ghost use Rattle.obu.specs.Writer.{answerNumbers, verdict};
-
-pub enum Answer {
-    // So many bytes were written.
-    Done(u32),
-    // Why nothing was written.
-    Refused(Refusal),
-}
-
-pub fn answer_numbers(a: Answer) -> Numbered
-    ensures { λ n. ⌜ n ≡ answerNumbers a ⌝ }
-{
-    match a {
-        Answer::Done(bytes) => Numbered {
-            number: 0,
-            first: bytes,
-            second: 0,
-        },
-        Answer::Refused(r) => numbers(r),
-    }
-}
+ghost use Rattle.obu.specs.Writer.{verdict};
 
 // The answer, from the last step of a walk that leaves the slice alone and the length of the slice: only where it is `Done` is the slice written.
 pub fn verdict(s: Step, len: usize) -> Answer

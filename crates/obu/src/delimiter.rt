@@ -1,9 +1,9 @@
 // The temporal delimiter (5.6).
-use crate::answer::Answer;
 use crate::answer::verdict;
 use crate::header::ObuHeader;
 use crate::write::obu_header;
 use crate::write::obu_size;
+use bits::answer::Answer;
 use bits::answer::Cursor;
 use bits::answer::Step;
 ghost use Prim.Native.Nat.{_≤_};

@@ -1,6 +1,6 @@
 // The public calls on OBUs once more: each function has the contract of the call of its name, and does nothing but call it. The wrong programs in
 // must-fail/ are other bodies: what a contract rules out is tried here, where a try takes seconds.
-use obu::answer::Answer;
+use bits::answer::Answer;
 use obu::header::ObuHeader;
 use sequence::record::SequenceHeaderObu;
 use sequence_reader::read::Outcome;

@@ -11,7 +11,7 @@ use borrow.Author.Tests.{lt-ltb, le-ltb}
 use Rattle.bits.specs.Bits.{Bits, from}
 use Rattle.bits.specs.Codec.{Got, got, stop, andThen, f, flag, absent, choose, _▷_, nil}
 use Rattle.bits.specs.Codes.{countZeros, unary, leb128, leb-step, leb-in, leb-out, tooLong}
-use Rattle.bits.specs.Answers.{Answer, value, refused, why, found, moved, Reads, Said, said, Reading, reading}
+use Rattle.bits.specs.Answers.{Result, value, refused, why, found, moved, Reads, Said, said, Reading, reading}
 use Rattle.bits.specs.Answers as form
 use Rattle.bits.specs.declared.answer.Cursor.{Cursor}
 use Rattle.bits.specs.declared.answer.Refusal.{Refusal}
@@ -47,7 +47,7 @@ module _ (m e i : ℕ) {B : Type 0} (make : ℕ → B) {xs : List ℕ} {p : Curs
   unfolding unary countZeros found moved
   zero-end r = reading (record { finds = rw (flag-inv _ _ _ (r .finds)) refl; moves = r .moves })
 
-  zero-on : {q : Cursor} {r : Answer B} → Reads (flag .dec) xs p (value false q) → Reading (λ z. make (suc z)) (unary m e i) xs q r → Reading make (unary (suc m) e i) xs p r
+  zero-on : {q : Cursor} {r : Result B} → Reads (flag .dec) xs p (value false q) → Reading (λ z. make (suc z)) (unary m e i) xs q r → Reading make (unary (suc m) e i) xs p r
   unfolding unary countZeros found moved
   zero-on {q} {r} s (reading g) =
       reading (record { finds = rw (flag-inv _ _ _ (s .finds)) (fuse (countZeros m e i (from xs (q .at))) suc make ∙ g .finds); moves = further xs p q r (s .moves) (g .moves) })

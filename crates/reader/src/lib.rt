@@ -1,8 +1,6 @@
 // The bit reader: the codes of 4.10 read. Each step answers a value and the place behind it, or the refusal.
-mod number; // number.rt: powers of two, and the values of codes
+mod number; // number.rt: the values of codes
 
-use crate::number::pow2;
-use crate::number::smaller;
 use crate::number::su_value;
 use crate::number::uvlc_value;
 use bits::answer::Cursor;
@@ -14,6 +12,8 @@ use bits::answer::LIMIT;
 use bits::answer::Refusal;
 use bits::answer::why_flag;
 use bits::answer::why_number;
+use bits::number::pow2;
+use bits::number::smaller;
 ghost use mathlib.Core.Path.{_≡_};
 ghost use mathlib.Core.List.{_++_};
 ghost use Prim.Native.Nat.{min, _+_, _-_, _*_, _/_, _%_, _^_, _<_, _≤_};

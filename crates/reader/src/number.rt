@@ -1,20 +1,8 @@
-// Powers of two, and the numbers that codes stand for: the arithmetic of what is read.
+// The numbers that codes stand for: the arithmetic of what is read.
+use bits::number::pow2;
 ghost use mathlib.Core.Path.{_≡_};
-ghost use Prim.Native.Nat.{min, _<_, _≤_, _^_};
+ghost use Prim.Native.Nat.{_<_, _≤_, _^_};
 ghost use Rattle.bits.specs.Codes.{uvlc-in, su-in};
-
-pub fn smaller(a: u32, b: u32) -> u32
-    ensures { λ r. ⌜ r ≡ min a b ⌝ }
-{
-    if a < b { a } else { b }
-}
-
-pub fn pow2(n: u32) -> u64
-    requires { ⌜ n ≤ 32 ⌝ }
-    ensures { λ r. ⌜ r ≡ 2 ^ n ⌝ }
-{
-    1u64 << n
-}
 
 // The number that uvlc codes as z zeros, a one and v in z bits.
 pub fn uvlc_value(z: u32, v: u32) -> u32

@@ -3,8 +3,9 @@ use mathlib.Core.Path.{_≡_, sym, ap, _∙_}
 use mathlib.Core.List.{List}
 use Prim.Native.Nat.{ℕ}
 use Rattle.bits.specs.Codec.{via}
-use Rattle.obu.specs.declared.answer.Answer.{Answer}
-use Rattle.obu.specs.Writer.{Written, Writes, writes}
+use Rattle.bits.specs.declared.answer.Answer.{Answer}
+use Rattle.bits.specs.Written.{Written}
+use Rattle.obu.specs.Writer.{Writes, writes}
 use Rattle.obu.proofs.Blind.{same-written}
 use Rattle.sequence.specs.declared.record.SequenceHeaderObu.{SequenceHeaderObu}
 use Rattle.sequence.specs.Fields.{record-out}

@@ -20,8 +20,8 @@ use Rattle.bits.specs.declared.answer.Step.{Step}
 use Rattle.bits.specs.declared.answer.Step.the-variants.{Next, Refused as Halted}
 use Rattle.bits.proofs.Laws.{wrote-bits, refused-done, join-inv, joined}
 use Rattle.bits.proofs.Walking.{answer, bytes, kept, hop, halt}
-use Rattle.obu.specs.declared.answer.Answer.{Answer}
-use Rattle.obu.specs.declared.answer.Answer.the-variants.{Done, Refused}
+use Rattle.bits.specs.declared.answer.Answer.{Answer}
+use Rattle.bits.specs.declared.answer.Answer.the-variants.{Done, Refused}
 use Rattle.obu.specs.declared.header.ObuHeader.{ObuHeader}
 use Rattle.obu.specs.Header.{obu-header}
 use Rattle.obu.specs.Frame.{obu-size, bytesFor, bitCount, trailing-bits, framed}

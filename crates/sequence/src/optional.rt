@@ -4,22 +4,17 @@ use bits::answer::Step;
 use writer::demand;
 use writer::f;
 use writer::flag;
+use writer::inferred_flag;
 ghost use mathlib.Core.Path.{_≡_};
 ghost use mathlib.Core.Bool.{_&&_, false};
 ghost use Rattle.bits.specs.Walk.{Walked};
-ghost use Rattle.bits.specs.Codec.{sameFlag, inferredFlag};
+ghost use Rattle.bits.specs.Codec.{inferredFlag};
 ghost use Rattle.sequence.specs.Optional.{f-if, flag-if};
 
 pub fn both(a: bool, b: bool) -> bool
     ensures { λ r. ⌜ r ≡ (a && b) ⌝ }
 {
     if a { b } else { false }
-}
-
-fn same_flag(a: bool, b: bool) -> bool
-    ensures { λ r. ⌜ r ≡ sameFlag a b ⌝ }
-{
-    if b { a } else { !a }
 }
 
 pub fn f_if(
@@ -38,19 +33,6 @@ pub fn f_if(
         return f(out, c, n, value, element, index);
     }
     demand(out, c, value == inferred, element, index)
-}
-
-pub fn inferred_flag(
-    out: &mut [u8],
-    c: Cursor,
-    value: bool,
-    inferred: bool,
-    element: u8,
-    index: u8,
-) -> Step
-    ensures { λ s. ⌜ Walked (inferredFlag element index inferred .enc value) c (now (out .entry)) s (now (out .exit)) ⌝ }
-{
-    demand(out, c, same_flag(value, inferred), element, index)
 }
 
 // A flag that must be 0.

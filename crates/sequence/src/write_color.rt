@@ -2,7 +2,6 @@
 use crate::optional::both;
 use crate::optional::f_if;
 use crate::optional::flag_if;
-use crate::optional::inferred_flag;
 use crate::optional::unset;
 use crate::record::ColorConfig;
 use bits::answer::Cursor;
@@ -10,6 +9,7 @@ use bits::answer::Step;
 use bits::element;
 use writer::demand;
 use writer::flag;
+use writer::inferred_flag;
 ghost use mathlib.Core.Path.{_≡_};
 ghost use mathlib.Core.Bool.{_&&_, false};
 ghost use lib.Dec.{eqb};

@@ -8,9 +8,10 @@ use Rattle.bits.specs.Bits.{Bits}
 use Rattle.bits.specs.Walk.{Walk, refused, run}
 use Rattle.bits.specs.Codec.{Got, got, stop}
 use Rattle.bits.specs.declared.answer.Refusal.{Refusal}
-use Rattle.obu.specs.declared.answer.Answer.{Answer}
-use Rattle.obu.specs.declared.answer.Answer.the-variants as W
-use Rattle.obu.specs.Writer.{Written, written, Writes, writes}
+use Rattle.bits.specs.declared.answer.Answer.{Answer}
+use Rattle.bits.specs.declared.answer.Answer.the-variants as W
+use Rattle.bits.specs.Written.{Written}
+use Rattle.obu.specs.Writer.{written, Writes, writes}
 use Rattle.obu.specs.Demand3.{AreBytes, read, Consistent, Spells, Shortest}
 use Rattle.obu.proofs.Writing.{refusing}
 use Rattle.sequence.specs.declared.record.SequenceHeaderObu.{SequenceHeaderObu}

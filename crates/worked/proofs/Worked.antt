@@ -16,7 +16,7 @@ use Rattle.bits.specs.Answers.{numbered}
 use Rattle.bits.specs.declared.answer.Refusal.the-variants.{Inconsistent, Short, Ends, Size, Trailing, Unfit}
 use Rattle.bits.specs.declared.answer.Numbered.{Numbered}
 use Rattle.bits.specs.declared.answer.Refusal.{Refusal}
-use Rattle.obu.specs.declared.answer.Answer.the-variants.{Done}
+use Rattle.bits.specs.declared.answer.Answer.the-variants.{Done}
 use Rattle.obu.specs.Writer.{written}
 use Rattle.obu.specs.Delimiter.{temporal-delimiter}
 use Rattle.obu.specs.Demand3.{AreBytes, read}

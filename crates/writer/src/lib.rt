@@ -1,9 +1,7 @@
 // The bit writer: the codes of 4.10 written, and checks. Each step answers the next place or the refusal.
-mod number; // number.rt: powers of two, the highest one of a number, and signs
+mod number; // number.rt: the highest one of a number, and signs
 pub mod store; // store.rt: bits stored in bytes
 
-use crate::number::pow2;
-use crate::number::smaller;
 use crate::number::su_code;
 use crate::number::top_bit;
 use crate::store::put;
@@ -12,11 +10,14 @@ use bits::answer::Cursor;
 use bits::answer::LIMIT;
 use bits::answer::Refusal;
 use bits::answer::Step;
+use bits::number::pow2;
+use bits::number::smaller;
 ghost use mathlib.Core.Path.{_≡_};
 ghost use lib.Dec.{ltb};
 ghost use Prim.Native.Nat.{min, _^_};
 ghost use Rattle.bits.specs.declared.answer.Refusal.the-variants.{Inconsistent};
 ghost use Rattle.bits.specs.Walk.{Walked, field, mark, demand, forward};
+ghost use Rattle.bits.specs.Codec.{sameFlag, inferredFlag};
 ghost use Rattle.bits.specs.Codes.{unary, uvlc, su, su-out, leb128};
 
 // The place n bits further on.
@@ -67,6 +68,26 @@ pub fn demand(out: &mut [u8], c: Cursor, ok: bool, element: u8, index: u8) -> St
         return Step::Next(c);
     }
     Step::Refused(Refusal::Inconsistent(element, index))
+}
+
+pub fn same_flag(a: bool, b: bool) -> bool
+    ensures { λ r. ⌜ r ≡ sameFlag a b ⌝ }
+{
+    if b { a } else { !a }
+}
+
+// A flag that is not coded, and must hold an inferred value.
+pub fn inferred_flag(
+    out: &mut [u8],
+    c: Cursor,
+    value: bool,
+    inferred: bool,
+    element: u8,
+    index: u8,
+) -> Step
+    ensures { λ r. ⌜ Walked (inferredFlag element index inferred .enc value) c (now (out .entry)) r (now (out .exit)) ⌝ }
+{
+    demand(out, c, same_flag(value, inferred), element, index)
 }
 
 // z zeros and a one.

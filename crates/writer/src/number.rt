@@ -1,21 +1,9 @@
-// Powers of two, the highest one of a number, and signs: the arithmetic of what is written.
+// The highest one of a number, and signs: the arithmetic of what is written.
+use bits::number::pow2;
 ghost use mathlib.Core.Path.{_≡_};
 ghost use lib.Signed.{mag};
-ghost use Prim.Native.Nat.{min, _<_, _≤_, _/_, _^_};
+ghost use Prim.Native.Nat.{_≤_, _/_, _^_};
 ghost use Rattle.bits.specs.Codes.{topBit, su-out};
-
-pub fn smaller(a: u32, b: u32) -> u32
-    ensures { λ r. ⌜ r ≡ min a b ⌝ }
-{
-    if a < b { a } else { b }
-}
-
-pub fn pow2(n: u32) -> u64
-    requires { ⌜ n ≤ 32 ⌝ }
-    ensures { λ r. ⌜ r ≡ 2 ^ n ⌝ }
-{
-    1u64 << n
-}
 
 // v without its k low bits, 0 where there are no others.
 pub fn above(v: u32, k: u32) -> u64

@@ -1,7 +1,7 @@
 // Bits stored in bytes, most significant first. What falls outside the lent slice is left out.
 use crate::number::above;
-use crate::number::pow2;
 use bits::answer::LIMIT;
+use bits::number::pow2;
 ghost use mathlib.Core.Path.{_≡_};
 ghost use mathlib.Core.List.{_++_};
 ghost use Prim.Native.Nat.{_+_, _*_, _/_, _≤_, _<_};

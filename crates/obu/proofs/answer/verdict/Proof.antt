@@ -8,9 +8,10 @@ use Rattle.bits.specs.declared.answer.Refusal.{Refusal}
 use Rattle.bits.specs.declared.answer.Refusal.the-variants.{Short, Long}
 use Rattle.bits.specs.declared.answer.Step.{Step}
 use Rattle.bits.specs.declared.answer.Step.the-variants.{Next, Refused as Halted}
-use Rattle.obu.specs.declared.answer.Answer.the-variants.{Done, Refused}
+use Rattle.bits.specs.declared.answer.Answer.the-variants.{Done, Refused}
 use Rattle.bits.specs.Answers.{counted}
-use Rattle.obu.specs.Writer.{wholeBytes, verdict}
+use Rattle.bits.specs.Written.{wholeBytes}
+use Rattle.obu.specs.Writer.{verdict}
 use Rattle.obu.proofs.answer.verdict.Statement.{statement}
 use Rattle.obu.proofs.answer.verdict.Tie as tie
 

@@ -3,7 +3,7 @@ use mathlib.Core.List.{List, [], _∷_}
 use mathlib.Core.Bool.{Bool, true, false}
 use Prim.Native.Nat.{ℕ}
 use borrow.Author.Needs.{needs}
-use Rattle.obu.specs.declared.answer.Answer.{Answer}
+use Rattle.bits.specs.declared.answer.Answer.{Answer}
 use Rattle.obu.specs.Writer.{Writes}
 use Rattle.obu.specs.Delimiter.{delimiterBytes, octets}
 use Rattle.obu.proofs.delimiter.write_plain.Statement.{statement}

@@ -11,7 +11,7 @@ use Rattle.bits.specs.declared.answer.Cursor.{Cursor}
 use Rattle.bits.specs.declared.answer.Refusal.{Refusal}
 use Rattle.bits.specs.declared.answer.Step.{Step}
 use Rattle.bits.specs.declared.answer.Step.the-variants.{Next, Refused}
-use Rattle.obu.specs.declared.answer.Answer.{Answer}
+use Rattle.bits.specs.declared.answer.Answer.{Answer}
 use Rattle.obu.specs.Delimiter.{octets}
 use Rattle.obu.specs.Frame.{obu-size}
 use Rattle.obu.specs.Header.{obu-header}

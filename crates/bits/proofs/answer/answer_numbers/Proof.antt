@@ -1,10 +1,10 @@
 use mathlib.Core.Path.{_≡_, sym, _∙_, ap}
 use borrow.Author.Needs.{needs}
+use Rattle.bits.specs.declared.answer.Answer.{Answer}
 use Rattle.bits.specs.declared.answer.Numbered.{Numbered}
-use Rattle.obu.specs.declared.answer.Answer.{Answer}
-use Rattle.obu.specs.Writer.{answerNumbers}
-use Rattle.obu.proofs.answer.answer_numbers.Statement.{statement}
-use Rattle.obu.proofs.answer.answer_numbers.Tie as tie
+use Rattle.bits.specs.Written.{answerNumbers}
+use Rattle.bits.proofs.answer.answer_numbers.Statement.{statement}
+use Rattle.bits.proofs.answer.answer_numbers.Tie as tie
 
 numbered-as : {a b : Answer} {n : Numbered} → a ≡ b → n ≡ answerNumbers b → n ≡ answerNumbers a
 numbered-as e h = h ∙ sym (ap answerNumbers e)

@@ -1,7 +1,0 @@
-use borrow.Author.Needs.{needs}
-use Rattle.bits.proofs.Numbers.{power-is}
-use Rattle.reader.proofs.number.pow2.Statement.{statement}
-use Rattle.reader.proofs.number.pow2.Tie as tie
-
-pub pow2-spec : {M : Type 1} → statement M
-pow2-spec = tie.close (tie.spec (λ c. search needs) (λ c. search power-is))
