@@ -13,7 +13,7 @@ use Rattle.bits.proofs.Laws.{via-law, recode-law, checked-law}
 use Rattle.bits.proofs.Leaves.{codec-laws, f-law, f-fits, array-law}
 use Rattle.parts.specs.Codes.{zip, firsts, seconds}
 use Rattle.cdef.specs.Cdef.{damping-out, damping-in, damping, swapped, secondary, Strengths, none, strength, strengths, each-strength, on-table, no-strength, no-place, no-strengths, off-table, cdef-on, cdef-off, cdef-params}
-use Rattle.cdef.specs.declared.CdefContext.{CdefContext}
+use Rattle.cdef.specs.declared.record.CdefContext.{CdefContext}
 use Rattle.parts.proofs.Pairs.{zip-back}
 use Rattle.bits.specs.Elements.{cdef-damping}
 

@@ -22,7 +22,7 @@ use Rattle.bits.proofs.Loops.{array-first}
 use Rattle.cdef.specs.Cdef as table
 use Rattle.cdef.specs.Packed.{packed}
 use Rattle.cdef.specs.Cdef.{damping, swapped, secondary, strength, strengths, Strengths, each-strength, no-strength, no-place, no-strengths, strengths-out}
-use Rattle.cdef.specs.declared.CdefParams.{CdefParams}
+use Rattle.cdef.specs.declared.record.CdefParams.{CdefParams}
 use Rattle.parts.proofs.Pairs.{zip-at}
 use Rattle.parts.proofs.Packing.{field-run, both-run, by-field}
 

@@ -7,8 +7,8 @@ use Rattle.bits.specs.Codec.{Codec, f, absent, inferred, choose, checked, recod
 use Rattle.bits.specs.Elements.{cdef-bits, cdef-y-pri-strength, cdef-y-sec-strength, cdef-uv-pri-strength, cdef-uv-sec-strength, cdef-damping}
 use Rattle.bits.specs.declared.answer.Refusal.the-variants.{Inconsistent}
 use Rattle.parts.specs.Codes.{zip, firsts, seconds}
-use Rattle.cdef.specs.declared.CdefParams.{CdefParams}
-use Rattle.cdef.specs.declared.CdefContext.{CdefContext}
+use Rattle.cdef.specs.declared.record.CdefParams.{CdefParams}
+use Rattle.cdef.specs.declared.record.CdefContext.{CdefContext}
 
 -- the damping is 3 to 6, and coded less 3; a smaller one goes to 4, which two bits do not hold
 abbrev pub damping-out : ℕ → ℕ

@@ -8,8 +8,8 @@ use lib.IntN.{ℤ, pos}
 use lib.Signed.{mag}
 use Rattle.bits.specs.Walk.{run}
 use Rattle.bits.specs.Elements.{loop-filter-ref-deltas, loop-filter-mode-deltas}
-use Rattle.loop_filter.specs.declared.LoopFilterParams.{LoopFilterParams}
-use Rattle.loop_filter.specs.declared.LoopFilterContext.{LoopFilterContext}
+use Rattle.loop_filter.specs.declared.record.LoopFilterParams.{LoopFilterParams}
+use Rattle.loop_filter.specs.declared.record.LoopFilterContext.{LoopFilterContext}
 use Rattle.loop_filter.specs.LoopFilter as loop-filter
 use Rattle.loop_filter.specs.LoopFilter.{Deltas, ref-deltas, mode-deltas, deltas, delta-update, rest, filter-on, default-deltas, default-refs, default-modes, no-rest, filter-off, loop-filter-table, deltas-out, rest-out, loop-filter-out, loop-filter-in, loop-filter-params}
 use Rattle.friscurella.specs.Held.{int8, held-loop-filter}

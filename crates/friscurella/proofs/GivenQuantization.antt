@@ -15,8 +15,8 @@ use Rattle.bits.specs.Elements.{delta-q-y-dc, delta-q-u-dc, delta-q-u-ac, delta
 use Rattle.bits.proofs.Storing.{below-or}
 use Rattle.parts.specs.Codes.{same, inferredSigned}
 use Rattle.parts.proofs.Signs.{same-is}
-use Rattle.quantization.specs.declared.QuantizationParams.{QuantizationParams}
-use Rattle.quantization.specs.declared.QuantizationContext.{QuantizationContext}
+use Rattle.quantization.specs.declared.record.QuantizationParams.{QuantizationParams}
+use Rattle.quantization.specs.declared.record.QuantizationContext.{QuantizationContext}
 use Rattle.quantization.specs.Quantization.{read-delta-q, v-coded, v-inferred, v-deltas, uv-deltas, no-uv-deltas, three-planes, one-plane, chroma, quantization-table, v-out, uv-out, chroma-out, quantization-out, quantization-in, quantization-params}
 use Rattle.friscurella.specs.Held.{int8, held-quantization}
 use Rattle.friscurella.proofs.Alike.{Alike, itself, following, both, chosen, through, join-done, refuses-done}

@@ -10,8 +10,8 @@ use Rattle.bits.specs.Walk.{run}
 use Rattle.bits.specs.Codes.{su}
 use Rattle.bits.specs.Elements.{feature-data}
 use Rattle.parts.specs.Codes.{natural, zip, firsts, seconds}
-use Rattle.segmentation.specs.declared.SegmentationParams.{SegmentationParams}
-use Rattle.segmentation.specs.declared.SegmentationContext.{SegmentationContext}
+use Rattle.segmentation.specs.declared.record.SegmentationParams.{SegmentationParams}
+use Rattle.segmentation.specs.declared.record.SegmentationContext.{SegmentationContext}
 use Rattle.segmentation.specs.Segmentation as segmentation
 use Rattle.segmentation.specs.Segmentation.{feature-bits, feature-max, signed-value, unsigned-value, feature-value, feature, features, no-data, no-features, features-if, with-reference, without-reference, enabled-params, segmentation-table, features-out, segmentation-out, segmentation-in, segmentation-params}
 use Rattle.friscurella.specs.Held.{int16, held-segmentation}

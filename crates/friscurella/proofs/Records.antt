@@ -24,16 +24,16 @@ use Rattle.sequence.specs.Fields.{sequence-out}
 use Rattle.sequence.specs.Sequence.{sequence-header}
 use Rattle.sequence.proofs.Laws.{sequence-header-obu-law}
 use Rattle.sequence.proofs.Unused.{with-points, unused}
-use Rattle.quantization.specs.declared.QuantizationContext.{QuantizationContext}
-use Rattle.quantization.specs.declared.QuantizationParams.{QuantizationParams}
-use Rattle.segmentation.specs.declared.SegmentationContext.{SegmentationContext}
-use Rattle.segmentation.specs.declared.SegmentationParams.{SegmentationParams}
-use Rattle.loop_filter.specs.declared.LoopFilterContext.{LoopFilterContext}
-use Rattle.loop_filter.specs.declared.LoopFilterParams.{LoopFilterParams}
-use Rattle.cdef.specs.declared.CdefContext.{CdefContext}
-use Rattle.cdef.specs.declared.CdefParams.{CdefParams}
-use Rattle.restoration.specs.declared.LoopRestorationContext.{LoopRestorationContext}
-use Rattle.restoration.specs.declared.LoopRestorationParams.{LoopRestorationParams}
+use Rattle.quantization.specs.declared.record.QuantizationContext.{QuantizationContext}
+use Rattle.quantization.specs.declared.record.QuantizationParams.{QuantizationParams}
+use Rattle.segmentation.specs.declared.record.SegmentationContext.{SegmentationContext}
+use Rattle.segmentation.specs.declared.record.SegmentationParams.{SegmentationParams}
+use Rattle.loop_filter.specs.declared.record.LoopFilterContext.{LoopFilterContext}
+use Rattle.loop_filter.specs.declared.record.LoopFilterParams.{LoopFilterParams}
+use Rattle.cdef.specs.declared.record.CdefContext.{CdefContext}
+use Rattle.cdef.specs.declared.record.CdefParams.{CdefParams}
+use Rattle.restoration.specs.declared.record.LoopRestorationContext.{LoopRestorationContext}
+use Rattle.restoration.specs.declared.record.LoopRestorationParams.{LoopRestorationParams}
 use Rattle.fill.specs.Fills as layout
 use Rattle.sequence_reader.specs.Layouts as row
 use Rattle.sequence_reader.specs.Layouts.{record-of}

@@ -9,9 +9,9 @@ use Rattle.sequence.specs.declared.group.Timing.{Timing}
 use Rattle.sequence.specs.declared.group.FrameSize.{FrameSize}
 use Rattle.sequence.specs.declared.group.InterTools.{InterTools}
 use Rattle.sequence.specs.Fields.{decoder-model-info-in, timing-in, points-of, frame-size-in, frame-ids-of, block-tools-of, hint-tools-of, screen-of, integer-of, hint-bits-in, MotionTable, inter-tools-in, filter-tools-of, grain-out, record-in}
-use Rattle.quantization.specs.declared.QuantizationParams.{QuantizationParams}
-use Rattle.segmentation.specs.declared.SegmentationParams.{SegmentationParams}
-use Rattle.loop_filter.specs.declared.LoopFilterParams.{LoopFilterParams}
+use Rattle.quantization.specs.declared.record.QuantizationParams.{QuantizationParams}
+use Rattle.segmentation.specs.declared.record.SegmentationParams.{SegmentationParams}
+use Rattle.loop_filter.specs.declared.record.LoopFilterParams.{LoopFilterParams}
 
 abbrev pub byte : ℕ → ℕ
 byte n = min n 255

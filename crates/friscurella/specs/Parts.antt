@@ -8,16 +8,16 @@ use Rattle.segmentation.specs.Segmentation as segmentation
 use Rattle.loop_filter.specs.LoopFilter as loop-filter
 use Rattle.cdef.specs.Cdef as cdef
 use Rattle.restoration.specs.Restoration as restoration
-use Rattle.quantization.specs.declared.QuantizationParams.{QuantizationParams}
-use Rattle.quantization.specs.declared.QuantizationContext.{QuantizationContext}
-use Rattle.segmentation.specs.declared.SegmentationParams.{SegmentationParams}
-use Rattle.segmentation.specs.declared.SegmentationContext.{SegmentationContext}
-use Rattle.loop_filter.specs.declared.LoopFilterParams.{LoopFilterParams}
-use Rattle.loop_filter.specs.declared.LoopFilterContext.{LoopFilterContext}
-use Rattle.cdef.specs.declared.CdefParams.{CdefParams}
-use Rattle.cdef.specs.declared.CdefContext.{CdefContext}
-use Rattle.restoration.specs.declared.LoopRestorationParams.{LoopRestorationParams}
-use Rattle.restoration.specs.declared.LoopRestorationContext.{LoopRestorationContext}
+use Rattle.quantization.specs.declared.record.QuantizationParams.{QuantizationParams}
+use Rattle.quantization.specs.declared.record.QuantizationContext.{QuantizationContext}
+use Rattle.segmentation.specs.declared.record.SegmentationParams.{SegmentationParams}
+use Rattle.segmentation.specs.declared.record.SegmentationContext.{SegmentationContext}
+use Rattle.loop_filter.specs.declared.record.LoopFilterParams.{LoopFilterParams}
+use Rattle.loop_filter.specs.declared.record.LoopFilterContext.{LoopFilterContext}
+use Rattle.cdef.specs.declared.record.CdefParams.{CdefParams}
+use Rattle.cdef.specs.declared.record.CdefContext.{CdefContext}
+use Rattle.restoration.specs.declared.record.LoopRestorationParams.{LoopRestorationParams}
+use Rattle.restoration.specs.declared.record.LoopRestorationContext.{LoopRestorationContext}
 use Rattle.friscurella.specs.Numbers.{signed-at, set-at, natural-at, each}
 
 abbrev pub quantization-context : List ℤ → QuantizationContext

@@ -1,8 +1,7 @@
 // The record of the CDEF parameters from its numbers, the context first.
 use crate::number::flag;
 use crate::number::natural;
-use cdef::CdefContext;
-use cdef::CdefParams;
+use cdef::record::*;
 ghost use mathlib.Core.Path.{_≡_};
 ghost use Prim.Native.Nat.{_≤_};
 ghost use Rattle.friscurella.specs.Parts.{cdef-context, strengths, cdef-params};

@@ -2,8 +2,7 @@
 use crate::number::flag;
 use crate::number::int8;
 use crate::number::natural;
-use loop_filter::LoopFilterContext;
-use loop_filter::LoopFilterParams;
+use loop_filter::record::*;
 ghost use mathlib.Core.Path.{_≡_};
 ghost use Rattle.friscurella.specs.Held.{held-loop-filter};
 ghost use Rattle.friscurella.specs.Parts.{loop-filter-context, loop-filter-params};

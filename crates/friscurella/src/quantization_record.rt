@@ -2,8 +2,7 @@
 use crate::number::flag;
 use crate::number::int8;
 use crate::number::natural;
-use quantization::QuantizationContext;
-use quantization::QuantizationParams;
+use quantization::record::*;
 ghost use mathlib.Core.Path.{_≡_};
 ghost use Rattle.friscurella.specs.Held.{held-quantization};
 ghost use Rattle.friscurella.specs.Parts.{quantization-context, quantization-params};

@@ -1,8 +1,7 @@
 // The record of the restoration parameters from its numbers, the context first.
 use crate::number::flag;
 use crate::number::natural;
-use restoration::LoopRestorationContext;
-use restoration::LoopRestorationParams;
+use restoration::record::*;
 ghost use mathlib.Core.Path.{_≡_};
 ghost use Rattle.friscurella.specs.Parts.{lr-context, lr-params};
 

@@ -2,8 +2,7 @@
 use crate::number::flag;
 use crate::number::int16;
 use crate::number::natural;
-use segmentation::SegmentationContext;
-use segmentation::SegmentationParams;
+use segmentation::record::*;
 ghost use mathlib.Core.Path.{_≡_};
 ghost use Rattle.friscurella.specs.Held.{held-segmentation};
 ghost use Rattle.friscurella.specs.Parts.{segmentation-context, segmentation-params};

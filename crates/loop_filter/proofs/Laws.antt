@@ -13,8 +13,8 @@ use Rattle.bits.proofs.Laws.{via-law, merged-law}
 use Rattle.bits.proofs.Leaves.{codec-laws, array-law}
 use Rattle.bits.proofs.CodeLaws.{su-law}
 use Rattle.loop_filter.specs.LoopFilter.{chroma-levels, levels, delta, Deltas, ref-deltas, mode-deltas, deltas, delta-update, rest, filter-on, default-deltas, default-refs, default-modes, no-levels, no-rest, filter-off, loop-filter-table, loop-filter-out, loop-filter-in, loop-filter-params}
-use Rattle.loop_filter.specs.declared.LoopFilterContext.{LoopFilterContext}
-use Rattle.loop_filter.specs.declared.LoopFilterParams.{LoopFilterParams}
+use Rattle.loop_filter.specs.declared.record.LoopFilterContext.{LoopFilterContext}
+use Rattle.loop_filter.specs.declared.record.LoopFilterParams.{LoopFilterParams}
 use Rattle.parts.proofs.Laws.{inferredSigned-law}
 
 delta-coded : (b : Bool) (z old : ℤ) → cond b (cond b z (pos 0)) old ≡ cond b z old

@@ -9,8 +9,8 @@ use Rattle.bits.specs.Codec.{Codec, f, flag, absent, inferred, choose, merged, 
 use Rattle.bits.specs.Codes.{su}
 use Rattle.bits.specs.Elements.{loop-filter-level, loop-filter-ref-deltas, loop-filter-mode-deltas, loop-filter-sharpness}
 use Rattle.parts.specs.Codes.{inferredSigned}
-use Rattle.loop_filter.specs.declared.LoopFilterParams.{LoopFilterParams}
-use Rattle.loop_filter.specs.declared.LoopFilterContext.{LoopFilterContext}
+use Rattle.loop_filter.specs.declared.record.LoopFilterParams.{LoopFilterParams}
+use Rattle.loop_filter.specs.declared.record.LoopFilterContext.{LoopFilterContext}
 
 abbrev pub Levels : Type 0
 Levels = ℕ × (ℕ × (ℕ × ℕ))

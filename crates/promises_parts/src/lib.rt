@@ -1,16 +1,11 @@
 // The writers of the frame parts once more: each function has the contract of the call of its name, and does nothing but call it. The wrong programs in
 // must-fail/ are other bodies: what a contract rules out is tried here, where a try takes seconds.
-use cdef::CdefContext;
-use cdef::CdefParams;
-use loop_filter::LoopFilterContext;
-use loop_filter::LoopFilterParams;
+use cdef::record::*;
+use loop_filter::record::*;
 use parts::answer::Answer;
-use quantization::QuantizationContext;
-use quantization::QuantizationParams;
-use restoration::LoopRestorationContext;
-use restoration::LoopRestorationParams;
-use segmentation::SegmentationContext;
-use segmentation::SegmentationParams;
+use quantization::record::*;
+use restoration::record::*;
+use segmentation::record::*;
 ghost use Rattle.parts.specs.Written.{Writes};
 ghost use Rattle.quantization.specs.Quantization.{quantization-params};
 ghost use Rattle.segmentation.specs.Segmentation.{segmentation-params};
@@ -26,7 +21,7 @@ pub fn write_quantization_params(
 ) -> Answer
     ensures { λ r. ⌜ Writes (quantization-params k .enc q) place (now (out .entry)) r (now (out .exit)) ⌝ }
 {
-    quantization::write_quantization_params(q, k, out, place)
+    quantization::write::write_quantization_params(q, k, out, place)
 }
 
 pub fn write_segmentation_params(
@@ -37,7 +32,7 @@ pub fn write_segmentation_params(
 ) -> Answer
     ensures { λ r. ⌜ Writes (segmentation-params k .enc p) place (now (out .entry)) r (now (out .exit)) ⌝ }
 {
-    segmentation::write_segmentation_params(p, k, out, place)
+    segmentation::write::write_segmentation_params(p, k, out, place)
 }
 
 pub fn write_loop_filter_params(
@@ -48,13 +43,13 @@ pub fn write_loop_filter_params(
 ) -> Answer
     ensures { λ r. ⌜ Writes (loop-filter-params k no-old .enc p) place (now (out .entry)) r (now (out .exit)) ⌝ }
 {
-    loop_filter::write_loop_filter_params(p, k, out, place)
+    loop_filter::write::write_loop_filter_params(p, k, out, place)
 }
 
 pub fn write_cdef_params(p: CdefParams, k: CdefContext, out: &mut [u8], place: u32) -> Answer
     ensures { λ r. ⌜ Writes (cdef-params k .enc p) place (now (out .entry)) r (now (out .exit)) ⌝ }
 {
-    cdef::write_cdef_params(p, k, out, place)
+    cdef::write::write_cdef_params(p, k, out, place)
 }
 
 pub fn write_lr_params(
@@ -65,5 +60,5 @@ pub fn write_lr_params(
 ) -> Answer
     ensures { λ r. ⌜ Writes (lr-params k .enc p) place (now (out .entry)) r (now (out .exit)) ⌝ }
 {
-    restoration::write_lr_params(p, k, out, place)
+    restoration::write::write_lr_params(p, k, out, place)
 }

@@ -11,7 +11,7 @@ use Rattle.bits.proofs.Leaves.{codec-laws}
 use Rattle.bits.proofs.CodeLaws.{su-law}
 use Rattle.parts.specs.Codes.{same}
 use Rattle.quantization.specs.Quantization.{delta-out, delta-in, read-delta-q, diff-uv, v-coded, v-inferred, v-deltas, uv-deltas, no-uv-deltas, three-planes, one-plane, chroma, v-matrix, matrices, qmatrix, quantization-table, quantization-out, quantization-in, quantization-params}
-use Rattle.quantization.specs.declared.QuantizationContext.{QuantizationContext}
+use Rattle.quantization.specs.declared.record.QuantizationContext.{QuantizationContext}
 use Rattle.parts.proofs.Signs.{same-is}
 use Rattle.parts.proofs.Laws.{inferredSigned-law}
 

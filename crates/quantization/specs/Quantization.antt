@@ -7,8 +7,8 @@ use Rattle.bits.specs.Codec.{Codec, f, flag, absent, inferred, inferredFlag, ch
 use Rattle.bits.specs.Codes.{su}
 use Rattle.bits.specs.Elements.{base-q-idx, delta-q-y-dc, diff-uv-delta, delta-q-u-dc, delta-q-u-ac, delta-q-v-dc, delta-q-v-ac, qm-y, qm-u, qm-v}
 use Rattle.parts.specs.Codes.{same, inferredSigned}
-use Rattle.quantization.specs.declared.QuantizationParams.{QuantizationParams}
-use Rattle.quantization.specs.declared.QuantizationContext.{QuantizationContext}
+use Rattle.quantization.specs.declared.record.QuantizationParams.{QuantizationParams}
+use Rattle.quantization.specs.declared.record.QuantizationContext.{QuantizationContext}
 
 -- 5.9.13: a flag, and su(7) where it is set. Zero is written without; a set flag and zero are read as well.
 abbrev pub delta-out : ℤ → Bool × ℤ

@@ -12,7 +12,7 @@ use Rattle.bits.specs.declared.answer.Refusal.the-variants.{Inconsistent}
 use Rattle.bits.proofs.Laws.{via-law, recode-law, merged-law, checked-law}
 use Rattle.bits.proofs.Leaves.{codec-laws, f-law, f-fits}
 use Rattle.restoration.specs.Restoration.{large-out, large-in, large-shift, small-out, small-in, small-shift, unit-shift, uv-shift, shifts, uses, kinds, three-planes, one-kind, one-plane, no-kinds, no-planes, lr-table, lr-out, lr-in, lr-params}
-use Rattle.restoration.specs.declared.LoopRestorationContext.{LoopRestorationContext}
+use Rattle.restoration.specs.declared.record.LoopRestorationContext.{LoopRestorationContext}
 
 large-back : (v : ℕ) → large-out (large-in v) ≡ v
 large-back v = rw (ne-eqb (v + 1) 0 (λ e. omega arith)) (omega arith)

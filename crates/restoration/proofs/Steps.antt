@@ -15,7 +15,7 @@ use Rattle.bits.specs.declared.answer.Step.{Step}
 use Rattle.bits.specs.declared.answer.Step.the-variants.{Next, Refused}
 use Rattle.bits.proofs.Walking.{halt-here, held-then, broken}
 use Rattle.restoration.specs.Restoration.{large-shift, small-shift, uv-shift, used, chroma-used, Uses, uses, kinds}
-use Rattle.restoration.specs.declared.LoopRestorationContext.{LoopRestorationContext}
+use Rattle.restoration.specs.declared.record.LoopRestorationContext.{LoopRestorationContext}
 use Rattle.parts.proofs.Flags.{clear, set-halt, set-then}
 use Rattle.parts.proofs.Packing.{field-run, both-run, by-field}
 

@@ -7,8 +7,8 @@ use lib.ListN.{getD}
 use Rattle.bits.specs.Codec.{Codec, f, flag, absent, inferred, inferredFlag, choose, checked, recode, merged, via, _▷_}
 use Rattle.bits.specs.Elements.{frame-restoration-type, uses-lr, uses-chroma-lr, lr-unit-shift, lr-uv-shift}
 use Rattle.bits.specs.declared.answer.Refusal.the-variants.{Inconsistent}
-use Rattle.restoration.specs.declared.LoopRestorationParams.{LoopRestorationParams}
-use Rattle.restoration.specs.declared.LoopRestorationContext.{LoopRestorationContext}
+use Rattle.restoration.specs.declared.record.LoopRestorationParams.{LoopRestorationParams}
+use Rattle.restoration.specs.declared.record.LoopRestorationContext.{LoopRestorationContext}
 
 -- with large superblocks the shift is 1 or 2, and coded less 1; 0 is forbidden, and goes to 2, which one bit does not hold
 abbrev pub large-out : ℕ → ℕ

@@ -15,7 +15,7 @@ use Rattle.bits.proofs.Leaves.{codec-laws, f-law, f-fits, inferredFlag-law, arr
 use Rattle.bits.proofs.CodeLaws.{su-law}
 use Rattle.parts.specs.Codes.{natural-out, natural, clip}
 use Rattle.segmentation.specs.Segmentation.{feature-bits, feature-max, signed-value, unsigned-value, feature-value, feature, features, no-flags, no-data, no-features, features-if, temporal-update, coded-updates, inferred-updates, with-reference, without-reference, enabled-params, segmentation-table, segmentation-out, segmentation-in, segmentation-params}
-use Rattle.segmentation.specs.declared.SegmentationContext.{SegmentationContext}
+use Rattle.segmentation.specs.declared.record.SegmentationContext.{SegmentationContext}
 use Rattle.parts.proofs.Pairs.{zip-back}
 use Rattle.parts.proofs.Laws.{inferredSigned-law, trimmed-law}
 use Rattle.segmentation.proofs.Clipping.{clip-clip, signed-order, unsigned-order}

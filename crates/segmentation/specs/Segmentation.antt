@@ -9,8 +9,8 @@ use Rattle.bits.specs.Codec.{Codec, flag, absent, inferredFlag, choose, via, ar
 use Rattle.bits.specs.Codes.{su}
 use Rattle.bits.specs.Elements.{segmentation-update-map, segmentation-temporal-update, segmentation-update-data, feature-enabled, feature-data}
 use Rattle.parts.specs.Codes.{inferredSigned, natural, clip, trimmed, zip, firsts, seconds}
-use Rattle.segmentation.specs.declared.SegmentationParams.{SegmentationParams}
-use Rattle.segmentation.specs.declared.SegmentationContext.{SegmentationContext}
+use Rattle.segmentation.specs.declared.record.SegmentationParams.{SegmentationParams}
+use Rattle.segmentation.specs.declared.record.SegmentationContext.{SegmentationContext}
 
 -- the bits and the limit of each of the eight features; the first five are signed
 abbrev pub feature-bits : ℕ → ℕ

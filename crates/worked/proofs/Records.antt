@@ -11,8 +11,8 @@ use Rattle.sequence.specs.declared.record.ColorConfig.{ColorConfig}
 use Rattle.sequence.specs.declared.record.SequenceHeaderObu.{SequenceHeaderObu}
 use Rattle.sequence.specs.Timing.{no-timing-info, no-decoder-model-info}
 use Rattle.sequence.specs.Points.{no-point}
-use Rattle.quantization.specs.declared.QuantizationParams.{QuantizationParams}
-use Rattle.cdef.specs.declared.CdefParams.{CdefParams}
+use Rattle.quantization.specs.declared.record.QuantizationParams.{QuantizationParams}
+use Rattle.cdef.specs.declared.record.CdefParams.{CdefParams}
 
 -- what no walk of cases 2, 3, 6 and 7 looks at
 pub record Unlooked : Type 0 where

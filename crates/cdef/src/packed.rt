@@ -1,0 +1,105 @@
+// The strengths of one place, written: one field, where all of them fit.
+use crate::record::CdefParams;
+use bits::answer::Cursor;
+use bits::answer::Refusal;
+use bits::answer::Step;
+use bits::element::CDEF_UV_PRI_STRENGTH;
+use bits::element::CDEF_UV_SEC_STRENGTH;
+use bits::element::CDEF_Y_PRI_STRENGTH;
+use bits::element::CDEF_Y_SEC_STRENGTH;
+use writer::f;
+ghost use mathlib.Core.Path.{_≡_};
+ghost use Prim.Native.Nat.{_<_};
+ghost use lib.ListN.{getD};
+ghost use Rattle.bits.specs.Walk.{Walked};
+ghost use Rattle.cdef.specs.Packed.{packed};
+ghost use Rattle.cdef.specs.Cdef.{secondary, strength, strengths, none, strengths-out};
+
+fn secondary(out: &mut [u8], c: Cursor, v: u32, element: u8, i: u8) -> Step
+    ensures { λ s. ⌜ Walked (secondary element i .enc v) c (now (out .entry)) s (now (out .exit)) ⌝ }
+{
+    if v == 3 {
+        return Step::Refused(Refusal::Inconsistent(element, i));
+    }
+    if v == 4 {
+        return f(out, c, 2, 3, element, i);
+    }
+    f(out, c, 2, v, element, i)
+}
+
+// A primary strength p and a secondary strength s, of the elements pe and se.
+fn strength(out: &mut [u8], c: Cursor, p: u32, s: u32, pe: u8, se: u8, i: u8) -> Step
+    ensures { λ r. ⌜ Walked (strength pe se i .enc (p, s)) c (now (out .entry)) r (now (out .exit)) ⌝ }
+{
+    let r = f(out, c, 4, p, pe, i);
+    let Step::Next(c) = r else {
+        return r;
+    };
+    secondary(out, c, s, se, i)
+}
+
+// The six bits of a primary strength p and a secondary strength s, or 64 where one of them is refused.
+fn packed(p: u32, s: u32) -> u32
+    ensures { λ r. ⌜ r ≡ packed p s ⌝ }
+{
+    if p < 16 {
+        if s < 3 {
+            return p * 4 + s;
+        }
+        if s == 4 {
+            return p * 4 + 3;
+        }
+    }
+    64
+}
+
+// Field by field.
+fn strengths_apart(out: &mut [u8], c: Cursor, planes: u32, p: CdefParams, i: usize) -> Step
+    requires { ⌜ i < 8 ⌝ }
+    ensures { λ s. ⌜ Walked (strengths planes i .enc (getD (strengths-out p) i none)) c (now (out .entry)) s (now (out .exit)) ⌝ }
+{
+    let s = strength(
+        out,
+        c,
+        p.cdef_y_pri_strength[i],
+        p.cdef_y_sec_strength[i],
+        CDEF_Y_PRI_STRENGTH,
+        CDEF_Y_SEC_STRENGTH,
+        i as u8,
+    );
+    let Step::Next(c) = s else {
+        return s;
+    };
+    if planes == 1 {
+        return Step::Next(c);
+    }
+    strength(
+        out,
+        c,
+        p.cdef_uv_pri_strength[i],
+        p.cdef_uv_sec_strength[i],
+        CDEF_UV_PRI_STRENGTH,
+        CDEF_UV_SEC_STRENGTH,
+        i as u8,
+    )
+}
+
+pub fn strengths(out: &mut [u8], c: Cursor, planes: u32, p: CdefParams, i: usize) -> Step
+    requires { ⌜ i < 8 ⌝ }
+    ensures { λ s. ⌜ Walked (strengths planes i .enc (getD (strengths-out p) i none)) c (now (out .entry)) s (now (out .exit)) ⌝ }
+{
+    let y = packed(p.cdef_y_pri_strength[i], p.cdef_y_sec_strength[i]);
+    if planes == 1 {
+        if y < 64 {
+            return f(out, c, 6, y, CDEF_Y_PRI_STRENGTH, i as u8);
+        }
+    } else {
+        let uv = packed(p.cdef_uv_pri_strength[i], p.cdef_uv_sec_strength[i]);
+        if y < 64 {
+            if uv < 64 {
+                return f(out, c, 12, y * 64 + uv, CDEF_Y_PRI_STRENGTH, i as u8);
+            }
+        }
+    }
+    strengths_apart(out, c, planes, p, i)
+}

@@ -1,0 +1,15 @@
+use mir.Syntax.{w8, w16}
+use borrow.Author.Needs.{needs}
+use Rattle.writer.proofs.SuCodes.{wide-fits}
+use Rattle.quantization.proofs.Deltas.{delta-zero, delta-packed, delta-halt, delta-coded}
+use Rattle.quantization.proofs.packed.read_delta_q.Statement.{statement}
+use Rattle.quantization.proofs.packed.read_delta_q.Tie as tie
+
+pub read-delta-q-spec : {M : Type 1} → statement M
+read-delta-q-spec =
+    tie.close
+    (tie.spec
+    (λ c κs. search needs) (λ c. search needs) (λ c. search delta-zero)
+    (λ c. search (wide-fits w8 w16 tt)) (λ c κs. search needs) (λ c. search needs) (λ c κs. search needs) (λ c. search needs) (λ c. search delta-packed)
+    (λ c κs. search needs) (λ c. search needs) (λ c. search needs) (λ c. search needs) (λ c. search delta-halt)
+    (λ c κs. search needs) (λ c. search needs) (λ c. search delta-coded))

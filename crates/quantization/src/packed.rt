@@ -1,0 +1,26 @@
+// 5.9.13 read_delta_q, written: a set flag and a delta that fits are one field.
+use bits::answer::Cursor;
+use bits::answer::Step;
+use writer::f;
+use writer::flag;
+use writer::su8;
+use writer::su16_code;
+ghost use Rattle.bits.specs.Walk.{Walked};
+ghost use Rattle.quantization.specs.Quantization.{read-delta-q};
+
+pub fn read_delta_q(out: &mut [u8], c: Cursor, delta: i8, element: u8) -> Step
+    ensures { λ s. ⌜ Walked (read-delta-q element .enc delta) c (now (out .entry)) s (now (out .exit)) ⌝ }
+{
+    if delta == 0 {
+        return flag(out, c, false);
+    }
+    let code = su16_code(delta as i16, 7);
+    if code < 128 {
+        return f(out, c, 8, 128 + code, element, 0);
+    }
+    let s = flag(out, c, true);
+    let Step::Next(c) = s else {
+        return s;
+    };
+    su8(out, c, 7, delta, element, 0)
+}

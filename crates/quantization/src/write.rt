@@ -1,0 +1,178 @@
+// 5.9.12 quantization_params, written.
+use crate::packed::read_delta_q;
+use crate::record::QuantizationContext;
+use crate::record::QuantizationParams;
+use bits::answer::Cursor;
+use bits::answer::Step;
+use bits::element::BASE_Q_IDX;
+use bits::element::DELTA_Q_U_AC;
+use bits::element::DELTA_Q_U_DC;
+use bits::element::DELTA_Q_V_AC;
+use bits::element::DELTA_Q_V_DC;
+use bits::element::DELTA_Q_Y_DC;
+use bits::element::DIFF_UV_DELTA;
+use bits::element::QM_U;
+use bits::element::QM_V;
+use bits::element::QM_Y;
+use parts::answer::Answer;
+use parts::inferred::inferred_delta;
+use parts::pair::pair;
+use parts::place::lend;
+use parts::place::settle;
+use parts::place::start;
+use writer::demand;
+use writer::f;
+use writer::flag;
+ghost use Rattle.bits.specs.Walk.{Walked};
+ghost use Rattle.parts.specs.Written.{Writes};
+ghost use Rattle.quantization.specs.Quantization.{diff-uv, v-coded, v-inferred, v-deltas, v-out, uv-deltas, no-uv-deltas, uv-out, chroma, chroma-out, v-matrix, matrices, matrices-out, qmatrix, qmatrix-out, quantization-params};
+
+fn diff_uv(out: &mut [u8], c: Cursor, separate: bool, diff: bool) -> Step
+    ensures { λ s. ⌜ Walked (diff-uv separate .enc diff) c (now (out .entry)) s (now (out .exit)) ⌝ }
+{
+    if separate {
+        return flag(out, c, diff);
+    }
+    demand(out, c, !diff, DIFF_UV_DELTA, 0)
+}
+
+fn v_coded(out: &mut [u8], c: Cursor, q: QuantizationParams) -> Step
+    ensures { λ s. ⌜ Walked (v-coded .enc (v-out q)) c (now (out .entry)) s (now (out .exit)) ⌝ }
+{
+    let s = read_delta_q(out, c, q.delta_q_v_dc, DELTA_Q_V_DC);
+    let Step::Next(c) = s else {
+        return s;
+    };
+    read_delta_q(out, c, q.delta_q_v_ac, DELTA_Q_V_AC)
+}
+
+fn v_inferred(out: &mut [u8], c: Cursor, q: QuantizationParams) -> Step
+    ensures { λ s. ⌜ Walked (v-inferred (q .«delta_q_u_dc») (q .«delta_q_u_ac») .enc (v-out q)) c (now (out .entry)) s (now (out .exit)) ⌝ }
+{
+    let s = inferred_delta(out, c, q.delta_q_v_dc, q.delta_q_u_dc, DELTA_Q_V_DC);
+    let Step::Next(c) = s else {
+        return s;
+    };
+    inferred_delta(out, c, q.delta_q_v_ac, q.delta_q_u_ac, DELTA_Q_V_AC)
+}
+
+fn v_deltas(out: &mut [u8], c: Cursor, q: QuantizationParams) -> Step
+    ensures { λ s. ⌜ Walked (v-deltas (q .«diff_uv_delta») (q .«delta_q_u_dc») (q .«delta_q_u_ac») .enc (v-out q)) c (now (out .entry)) s (now (out .exit)) ⌝ }
+{
+    if q.diff_uv_delta {
+        return v_coded(out, c, q);
+    }
+    v_inferred(out, c, q)
+}
+
+fn uv_deltas(out: &mut [u8], c: Cursor, q: QuantizationParams) -> Step
+    ensures { λ s. ⌜ Walked (uv-deltas (q .«diff_uv_delta») .enc (uv-out q)) c (now (out .entry)) s (now (out .exit)) ⌝ }
+{
+    let s = read_delta_q(out, c, q.delta_q_u_dc, DELTA_Q_U_DC);
+    let Step::Next(c) = s else {
+        return s;
+    };
+    let s = read_delta_q(out, c, q.delta_q_u_ac, DELTA_Q_U_AC);
+    let Step::Next(c) = s else {
+        return s;
+    };
+    v_deltas(out, c, q)
+}
+
+// With one plane all four are 0.
+fn no_uv_deltas(out: &mut [u8], c: Cursor, q: QuantizationParams) -> Step
+    ensures { λ s. ⌜ Walked (no-uv-deltas .enc (uv-out q)) c (now (out .entry)) s (now (out .exit)) ⌝ }
+{
+    let s = inferred_delta(out, c, q.delta_q_u_dc, 0, DELTA_Q_U_DC);
+    let Step::Next(c) = s else {
+        return s;
+    };
+    let s = inferred_delta(out, c, q.delta_q_u_ac, 0, DELTA_Q_U_AC);
+    let Step::Next(c) = s else {
+        return s;
+    };
+    v_inferred(out, c, q)
+}
+
+fn chroma(out: &mut [u8], c: Cursor, planes: u32, separate: bool, q: QuantizationParams) -> Step
+    ensures { λ s. ⌜ Walked (chroma planes separate .enc (chroma-out q)) c (now (out .entry)) s (now (out .exit)) ⌝ }
+{
+    if planes == 1 {
+        return no_uv_deltas(out, c, q);
+    }
+    let s = diff_uv(out, c, separate, q.diff_uv_delta);
+    let Step::Next(c) = s else {
+        return s;
+    };
+    uv_deltas(out, c, q)
+}
+
+fn v_matrix(out: &mut [u8], c: Cursor, separate: bool, u: u32, v: u32) -> Step
+    ensures { λ s. ⌜ Walked (v-matrix separate u .enc v) c (now (out .entry)) s (now (out .exit)) ⌝ }
+{
+    if separate {
+        return f(out, c, 4, v, QM_V, 0);
+    }
+    demand(out, c, v == u, QM_V, 0)
+}
+
+fn matrices(out: &mut [u8], c: Cursor, separate: bool, q: QuantizationParams) -> Step
+    ensures { λ s. ⌜ Walked (matrices separate .enc (matrices-out q)) c (now (out .entry)) s (now (out .exit)) ⌝ }
+{
+    let s = pair(out, c, 4, q.qm_y, q.qm_u, QM_Y, 0, QM_U, 0);
+    let Step::Next(c) = s else {
+        return s;
+    };
+    v_matrix(out, c, separate, q.qm_u, q.qm_v)
+}
+
+fn qmatrix(out: &mut [u8], c: Cursor, separate: bool, q: QuantizationParams) -> Step
+    ensures { λ s. ⌜ Walked (qmatrix separate .enc (qmatrix-out q)) c (now (out .entry)) s (now (out .exit)) ⌝ }
+{
+    let s = flag(out, c, q.using_qmatrix);
+    let Step::Next(c) = s else {
+        return s;
+    };
+    if q.using_qmatrix {
+        return matrices(out, c, separate, q);
+    }
+    Step::Next(c)
+}
+
+fn quantization_params(
+    out: &mut [u8],
+    c: Cursor,
+    q: QuantizationParams,
+    k: QuantizationContext,
+) -> Step
+    ensures { λ s. ⌜ Walked (quantization-params k .enc q) c (now (out .entry)) s (now (out .exit)) ⌝ }
+{
+    let s = f(out, c, 8, q.base_q_idx, BASE_Q_IDX, 0);
+    let Step::Next(c) = s else {
+        return s;
+    };
+    let s = read_delta_q(out, c, q.delta_q_y_dc, DELTA_Q_Y_DC);
+    let Step::Next(c) = s else {
+        return s;
+    };
+    let s = chroma(out, c, k.planes, k.separate_uv_delta_q, q);
+    let Step::Next(c) = s else {
+        return s;
+    };
+    qmatrix(out, c, k.separate_uv_delta_q, q)
+}
+
+// The part written from the bit `place` of `out` on.
+pub fn write_quantization_params(
+    q: QuantizationParams,
+    k: QuantizationContext,
+    out: &mut [u8],
+    place: u32,
+) -> Answer
+    ensures { λ r. ⌜ Writes (quantization-params k .enc q) place (now (out .entry)) r (now (out .exit)) ⌝ }
+{
+    let mut near = [0u8; 24];
+    lend(out, place, &mut near);
+    let s = quantization_params(&mut near, start(place), q, k);
+    settle(s, place, &near, out)
+}
