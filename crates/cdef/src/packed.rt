@@ -1,12 +1,7 @@
 // The strengths of one place, written: one field, where all of them fit.
 use crate::record::CdefParams;
-use bits::answer::Cursor;
-use bits::answer::Refusal;
-use bits::answer::Step;
-use bits::element::CDEF_UV_PRI_STRENGTH;
-use bits::element::CDEF_UV_SEC_STRENGTH;
-use bits::element::CDEF_Y_PRI_STRENGTH;
-use bits::element::CDEF_Y_SEC_STRENGTH;
+use bits::answer::*;
+use bits::element::*;
 use writer::f;
 ghost use mathlib.Core.Path.{_≡_};
 ghost use Prim.Native.Nat.{_<_};

@@ -1,22 +1,12 @@
 // 5.9.19 cdef_params, written.
 use crate::packed::strengths;
-use crate::record::CdefContext;
-use crate::record::CdefParams;
-use bits::answer::Cursor;
-use bits::answer::Refusal;
-use bits::answer::Step;
-use bits::element::CDEF_BITS;
-use bits::element::CDEF_DAMPING;
-use bits::element::CDEF_UV_PRI_STRENGTH;
-use bits::element::CDEF_UV_SEC_STRENGTH;
-use bits::element::CDEF_Y_PRI_STRENGTH;
-use bits::element::CDEF_Y_SEC_STRENGTH;
+use crate::record::*;
+use bits::answer::*;
+use bits::element::*;
 use parts::answer::Answer;
 use parts::inferred::any;
 use parts::pair::pair;
-use parts::place::lend;
-use parts::place::settle;
-use parts::place::start;
+use parts::place::*;
 use writer::demand;
 ghost use mathlib.Core.Path.{_≡_};
 ghost use Prim.Native.Nat.{_≤_, _^_, min};

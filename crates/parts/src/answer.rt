@@ -1,6 +1,5 @@
 // What a part's writer answers.
-use bits::answer::Numbered;
-use bits::answer::Refusal;
+use bits::answer::*;
 ghost use mathlib.Core.Path.{_≡_};
 ghost use Rattle.parts.specs.Written.{answered};
 

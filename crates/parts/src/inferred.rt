@@ -1,6 +1,5 @@
 // Tests of several flags; flags and deltas that are not coded.
-use bits::answer::Cursor;
-use bits::answer::Step;
+use bits::answer::*;
 use writer::demand;
 ghost use mathlib.Core.Path.{_≡_};
 ghost use mathlib.Core.Bool.{_&&_, _||_};

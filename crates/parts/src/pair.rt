@@ -1,6 +1,5 @@
 // Two fields of n bits, stored as one.
-use bits::answer::Cursor;
-use bits::answer::Step;
+use bits::answer::*;
 use writer::f;
 ghost use Rattle.bits.specs.Walk.{Walked, field, _⊕_};
 

@@ -1,8 +1,6 @@
 // The room for a part at a place. A part is walked once, over an array that has the bytes around the place; the array's bytes go back where the whole part is good.
 use crate::answer::Answer;
-use bits::answer::Cursor;
-use bits::answer::Refusal;
-use bits::answer::Step;
+use bits::answer::*;
 ghost use mathlib.Core.Path.{_≡_};
 ghost use Prim.Native.Nat.{_%_};
 ghost use Rattle.parts.specs.Settled.{lent, Settles};

@@ -1,10 +1,6 @@
 // 5.9.13 read_delta_q, written: a set flag and a delta that fits are one field.
-use bits::answer::Cursor;
-use bits::answer::Step;
-use writer::f;
-use writer::flag;
-use writer::su8;
-use writer::su16_code;
+use bits::answer::*;
+use writer::*;
 ghost use Rattle.bits.specs.Walk.{Walked};
 ghost use Rattle.quantization.specs.Quantization.{read-delta-q};
 

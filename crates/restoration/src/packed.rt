@@ -1,7 +1,6 @@
 // The kinds of three planes, written: one field, where all of them fit.
 use crate::record::LoopRestorationParams;
-use bits::answer::Cursor;
-use bits::answer::Step;
+use bits::answer::*;
 use bits::element::FRAME_RESTORATION_TYPE;
 use writer::f;
 ghost use Rattle.bits.specs.Walk.{Walked};

@@ -1,14 +1,8 @@
 // One feature, written: a set flag and the value are one field, where the value fits.
-use crate::feature::clip3;
-use crate::feature::feature_bits;
-use crate::feature::feature_max;
-use bits::answer::Cursor;
-use bits::answer::Step;
+use crate::feature::*;
+use bits::answer::*;
 use bits::element::FEATURE_DATA;
-use writer::f;
-use writer::flag;
-use writer::su16;
-use writer::su16_code;
+use writer::*;
 ghost use mathlib.Core.Path.{_≡_};
 ghost use Prim.Native.Nat.{_<_, _≤_, _^_};
 ghost use lib.IntN.{pos};

@@ -1,21 +1,12 @@
 // 5.9.14 segmentation_params, written.
 use crate::packed::feature;
-use crate::record::SegmentationContext;
-use crate::record::SegmentationParams;
-use bits::answer::Cursor;
-use bits::answer::Step;
-use bits::element::FEATURE_DATA;
-use bits::element::FEATURE_ENABLED;
-use bits::element::SEGMENTATION_TEMPORAL_UPDATE;
-use bits::element::SEGMENTATION_UPDATE_DATA;
-use bits::element::SEGMENTATION_UPDATE_MAP;
+use crate::record::*;
+use bits::answer::*;
+use bits::element::*;
 use parts::answer::Answer;
 use parts::inferred::inferred_flag;
-use parts::place::lend;
-use parts::place::settle;
-use parts::place::start;
-use writer::demand;
-use writer::flag;
+use parts::place::*;
+use writer::*;
 ghost use lib.IntN.{pos};
 ghost use Rattle.bits.specs.Walk.{Walked};
 ghost use Rattle.parts.specs.Written.{Writes};
