@@ -99,6 +99,6 @@ cdef-off-law : Lawful loose cdef-off
 unfolding cdef-off
 cdef-off-law = via-law _ _ off-law (λ a. λ i. (a .0, (strengths-back (a .1 .0) i, a .1 .1)))
 
-pub cdef-law : (k : CdefContext) → Lawful loose (cdef-params k)
+pub cdef-law : (context : CdefContext) → Lawful loose (cdef-params context)
 unfolding cdef-params
-cdef-law k = search (codec-laws, cdef-on-law, cdef-off-law) depth 12
+cdef-law context = search (codec-laws, cdef-on-law, cdef-off-law) depth 12

@@ -47,7 +47,7 @@ strengths planes i =
 
 -- of the eight places, the first 2 ^ cdef_bits are coded
 unfoldable pub each-strength : ℕ → ℕ → Codec (List Strengths)
-each-strength planes n = array none (strengths planes) 8 0 n
+each-strength planes count = array none (strengths planes) 8 0 count
 
 unfoldable pub on-table : ℕ → Codec (ℕ × (ℕ × List Strengths))
 on-table planes =
@@ -97,4 +97,4 @@ unfoldable pub cdef-off : Codec CdefParams
 cdef-off = via (λ p. (p .«cdef_bits», (strengths-out p, p .«cdef_damping»))) (λ (bits, (ss, damping)). cdef-in damping bits ss) off-table
 
 unfoldable pub cdef-params : CdefContext → Codec CdefParams
-cdef-params k = choose (k .«coded_lossless» || k .«allow_intrabc» || not (k .«enable_cdef»)) cdef-off (cdef-on (k .planes))
+cdef-params context = choose (context .«coded_lossless» || context .«allow_intrabc» || not (context .«enable_cdef»)) cdef-off (cdef-on (context .planes))

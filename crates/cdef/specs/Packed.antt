@@ -4,4 +4,4 @@ use Prim.Native.Nat.{ℕ, _+_, _*_}
 use lib.Dec.{eqb, ltb}
 
 unfoldable pub packed : ℕ → ℕ → ℕ
-packed p s = cond (ltb p 16) (cond (ltb s 3) (p * 4 + s) (cond (eqb s 4) (p * 4 + 3) 64)) 64
+packed pri sec = cond (ltb pri 16) (cond (ltb sec 3) (pri * 4 + sec) (cond (eqb sec 4) (pri * 4 + 3) 64)) 64

@@ -22,27 +22,35 @@ fn secondary(out: &mut [u8], c: Cursor, v: u32, element: u8, i: u8) -> Step
     f(out, c, 2, v, element, i)
 }
 
-// A primary strength p and a secondary strength s, of the elements pe and se.
-fn strength(out: &mut [u8], c: Cursor, p: u32, s: u32, pe: u8, se: u8, i: u8) -> Step
-    ensures { λ r. ⌜ Walked (strength pe se i .enc (p, s)) c (now (out .entry)) r (now (out .exit)) ⌝ }
+// A primary and a secondary strength, each with its element.
+fn strength(
+    out: &mut [u8],
+    c: Cursor,
+    pri: u32,
+    sec: u32,
+    pri_element: u8,
+    sec_element: u8,
+    i: u8,
+) -> Step
+    ensures { λ s. ⌜ Walked (strength «pri_element» «sec_element» i .enc (pri, sec)) c (now (out .entry)) s (now (out .exit)) ⌝ }
 {
-    let r = f(out, c, 4, p, pe, i);
-    let Step::Next(c) = r else {
-        return r;
+    let s = f(out, c, 4, pri, pri_element, i);
+    let Step::Next(c) = s else {
+        return s;
     };
-    secondary(out, c, s, se, i)
+    secondary(out, c, sec, sec_element, i)
 }
 
-// The six bits of a primary strength p and a secondary strength s, or 64 where one of them is refused.
-fn packed(p: u32, s: u32) -> u32
-    ensures { λ r. ⌜ r ≡ packed p s ⌝ }
+// The six bits of a primary and a secondary strength, or 64 where one of them is refused.
+fn packed(pri: u32, sec: u32) -> u32
+    ensures { λ r. ⌜ r ≡ packed pri sec ⌝ }
 {
-    if p < 16 {
-        if s < 3 {
-            return p * 4 + s;
+    if pri < 16 {
+        if sec < 3 {
+            return pri * 4 + sec;
         }
-        if s == 4 {
-            return p * 4 + 3;
+        if sec == 4 {
+            return pri * 4 + 3;
         }
     }
     64

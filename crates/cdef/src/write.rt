@@ -14,13 +14,13 @@ ghost use Rattle.bits.specs.Walk.{Walked};
 ghost use Rattle.parts.specs.Written.{Writes};
 ghost use Rattle.cdef.specs.Cdef.{each-strength, strengths-out, no-strength, no-strengths, cdef-on, cdef-off, cdef-params};
 
-fn each_strength(out: &mut [u8], c: Cursor, planes: u32, n: usize, p: CdefParams) -> Step
-    requires { ⌜ n ≤ 8 ⌝ }
-    ensures { λ s. ⌜ Walked (each-strength planes n .enc (strengths-out p)) c (now (out .entry)) s (now (out .exit)) ⌝ }
+fn each_strength(out: &mut [u8], c: Cursor, planes: u32, count: usize, p: CdefParams) -> Step
+    requires { ⌜ count ≤ 8 ⌝ }
+    ensures { λ s. ⌜ Walked (each-strength planes count .enc (strengths-out p)) c (now (out .entry)) s (now (out .exit)) ⌝ }
 {
     let mut c = c;
     let mut i: usize = 0;
-    while i < n {
+    while i < count {
         let s = strengths(out, c, planes, p, i);
         let Step::Next(next) = s else {
             return s;
@@ -66,14 +66,21 @@ fn cdef_on(out: &mut [u8], c: Cursor, planes: u32, p: CdefParams) -> Step
     each_strength(out, c, planes, places(p.cdef_bits), p)
 }
 
-fn no_strength(out: &mut [u8], c: Cursor, p: u32, s: u32, pe: u8, se: u8) -> Step
-    ensures { λ r. ⌜ Walked (no-strength pe se .enc (p, s)) c (now (out .entry)) r (now (out .exit)) ⌝ }
+fn no_strength(
+    out: &mut [u8],
+    c: Cursor,
+    pri: u32,
+    sec: u32,
+    pri_element: u8,
+    sec_element: u8,
+) -> Step
+    ensures { λ s. ⌜ Walked (no-strength «pri_element» «sec_element» .enc (pri, sec)) c (now (out .entry)) s (now (out .exit)) ⌝ }
 {
-    let r = demand(out, c, p == 0, pe, 0);
-    let Step::Next(c) = r else {
-        return r;
+    let s = demand(out, c, pri == 0, pri_element, 0);
+    let Step::Next(c) = s else {
+        return s;
     };
-    demand(out, c, s == 0, se, 0)
+    demand(out, c, sec == 0, sec_element, 0)
 }
 
 // Place 0, and no other.
@@ -115,21 +122,25 @@ fn cdef_off(out: &mut [u8], c: Cursor, p: CdefParams) -> Step
     demand(out, c, p.cdef_damping == 3, CDEF_DAMPING, 0)
 }
 
-fn cdef_params(out: &mut [u8], c: Cursor, p: CdefParams, k: CdefContext) -> Step
-    ensures { λ s. ⌜ Walked (cdef-params k .enc p) c (now (out .entry)) s (now (out .exit)) ⌝ }
+fn cdef_params(out: &mut [u8], c: Cursor, p: CdefParams, context: CdefContext) -> Step
+    ensures { λ s. ⌜ Walked (cdef-params context .enc p) c (now (out .entry)) s (now (out .exit)) ⌝ }
 {
-    if any(k.coded_lossless, k.allow_intrabc, !k.enable_cdef) {
+    if any(
+        context.coded_lossless,
+        context.allow_intrabc,
+        !context.enable_cdef,
+    ) {
         return cdef_off(out, c, p);
     }
-    cdef_on(out, c, k.planes, p)
+    cdef_on(out, c, context.planes, p)
 }
 
 // The part written from the bit `place` of `out` on.
-pub fn write_cdef_params(p: CdefParams, k: CdefContext, out: &mut [u8], place: u32) -> Answer
-    ensures { λ r. ⌜ Writes (cdef-params k .enc p) place (now (out .entry)) r (now (out .exit)) ⌝ }
+pub fn write_cdef_params(p: CdefParams, context: CdefContext, out: &mut [u8], place: u32) -> Answer
+    ensures { λ r. ⌜ Writes (cdef-params context .enc p) place (now (out .entry)) r (now (out .exit)) ⌝ }
 {
     let mut near = [0u8; 24];
     lend(out, place, &mut near);
-    let s = cdef_params(&mut near, start(place), p, k);
+    let s = cdef_params(&mut near, start(place), p, context);
     settle(s, place, &near, out)
 }

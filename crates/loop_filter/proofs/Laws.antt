@@ -69,14 +69,14 @@ no-rest-law : Lawful loose no-rest
 unfolding no-rest
 no-rest-law = search (codec-laws, default-refs-law, default-modes-law) depth 12
 
-table-law : (k : LoopFilterContext) (old : Deltas) → Lawful loose (loop-filter-table k old)
+table-law : (context : LoopFilterContext) (old : Deltas) → Lawful loose (loop-filter-table context old)
 unfolding loop-filter-table filter-on filter-off
-table-law k old = search (codec-laws, levels-law, rest-law, no-levels-law, no-rest-law) depth 12
+table-law context old = search (codec-laws, levels-law, rest-law, no-levels-law, no-rest-law) depth 12
 
-pub loop-filter-law : (k : LoopFilterContext) (old : Deltas) → Lawful loose (loop-filter-params k old)
+pub loop-filter-law : (context : LoopFilterContext) (old : Deltas) → Lawful loose (loop-filter-params context old)
 unfolding loop-filter-params
-loop-filter-law k old = via-law loop-filter-out loop-filter-in (table-law k old) (λ a. refl)
+loop-filter-law context old = via-law loop-filter-out loop-filter-in (table-law context old) (λ a. refl)
 
-pub old-unwritten : (k : LoopFilterContext) (p : LoopFilterParams) (old new : Deltas) → loop-filter-params k old .enc p ≡ loop-filter-params k new .enc p
+pub old-unwritten : (context : LoopFilterContext) (p : LoopFilterParams) (old new : Deltas) → loop-filter-params context old .enc p ≡ loop-filter-params context new .enc p
 unfolding loop-filter-params loop-filter-table filter-on rest delta-update deltas ref-deltas mode-deltas delta merged via array choose absent _▷_
-old-unwritten k p old new = refl
+old-unwritten context p old new = refl

@@ -89,7 +89,7 @@ unfoldable pub filter-off : Codec (Levels × Rest)
 filter-off = no-levels ▷ λ _. no-rest
 
 unfoldable pub loop-filter-table : LoopFilterContext → Deltas → Codec (Levels × Rest)
-loop-filter-table k old = choose (k .«coded_lossless» || k .«allow_intrabc») filter-off (filter-on (k .planes) old)
+loop-filter-table context old = choose (context .«coded_lossless» || context .«allow_intrabc») filter-off (filter-on (context .planes) old)
 
 -- the record for its table
 abbrev pub levels-out : LoopFilterParams → Levels
@@ -111,18 +111,18 @@ abbrev pub loop-filter-out : LoopFilterParams → Levels × Rest
 loop-filter-out p = (levels-out p, rest-out p)
 
 abbrev pub loop-filter-in : Levels × Rest → LoopFilterParams
-loop-filter-in = λ ((a, (b, (u, v))), (sharpness, (enabled, (update, (refs, (m, n)))))). record {
+loop-filter-in = λ ((a, (b, (u, v))), (sharpness, (enabled, (update, (refs, (mode-0, mode-1)))))). record {
   «loop_filter_level» = a ∷ b ∷ u ∷ v ∷ [];
   «loop_filter_sharpness» = sharpness;
   «loop_filter_delta_enabled» = enabled;
   «loop_filter_delta_update» = update;
   «loop_filter_ref_deltas» = refs;
-  «loop_filter_mode_deltas» = m ∷ n ∷ [];
+  «loop_filter_mode_deltas» = mode-0 ∷ mode-1 ∷ [];
 }
 
 -- The old deltas are for a reader: what is written does not go by them.
 unfoldable pub loop-filter-params : LoopFilterContext → Deltas → Codec LoopFilterParams
-loop-filter-params k old = via loop-filter-out loop-filter-in (loop-filter-table k old)
+loop-filter-params context old = via loop-filter-out loop-filter-in (loop-filter-table context old)
 
 abbrev pub no-old : Deltas
 no-old = ([], (pos 0, pos 0))

@@ -55,14 +55,14 @@ fn levels(out: &mut [u8], c: Cursor, planes: u32, p: LoopFilterParams) -> Step
 }
 
 // A set flag and the delta.
-fn delta(out: &mut [u8], c: Cursor, v: i8, element: u8, i: u8) -> Step
-    ensures { λ s. ⌜ Walked (delta (pos 0) element i .enc v) c (now (out .entry)) s (now (out .exit)) ⌝ }
+fn delta(out: &mut [u8], c: Cursor, value: i8, element: u8, i: u8) -> Step
+    ensures { λ s. ⌜ Walked (delta (pos 0) element i .enc value) c (now (out .entry)) s (now (out .exit)) ⌝ }
 {
     let s = flag(out, c, true);
     let Step::Next(c) = s else {
         return s;
     };
-    su8(out, c, 7, v, element, i)
+    su8(out, c, 7, value, element, i)
 }
 
 fn ref_deltas(out: &mut [u8], c: Cursor, p: LoopFilterParams) -> Step
@@ -234,26 +234,31 @@ fn filter_off(out: &mut [u8], c: Cursor, p: LoopFilterParams) -> Step
     default_modes(out, c, p)
 }
 
-fn loop_filter_params(out: &mut [u8], c: Cursor, p: LoopFilterParams, k: LoopFilterContext) -> Step
-    ensures { λ s. ⌜ Walked (loop-filter-params k no-old .enc p) c (now (out .entry)) s (now (out .exit)) ⌝ }
+fn loop_filter_params(
+    out: &mut [u8],
+    c: Cursor,
+    p: LoopFilterParams,
+    context: LoopFilterContext,
+) -> Step
+    ensures { λ s. ⌜ Walked (loop-filter-params context no-old .enc p) c (now (out .entry)) s (now (out .exit)) ⌝ }
 {
-    if either(k.coded_lossless, k.allow_intrabc) {
+    if either(context.coded_lossless, context.allow_intrabc) {
         return filter_off(out, c, p);
     }
-    filter_on(out, c, k.planes, p)
+    filter_on(out, c, context.planes, p)
 }
 
 // The part written from the bit `place` of `out` on.
 pub fn write_loop_filter_params(
     p: LoopFilterParams,
-    k: LoopFilterContext,
+    context: LoopFilterContext,
     out: &mut [u8],
     place: u32,
 ) -> Answer
-    ensures { λ r. ⌜ Writes (loop-filter-params k no-old .enc p) place (now (out .entry)) r (now (out .exit)) ⌝ }
+    ensures { λ r. ⌜ Writes (loop-filter-params context no-old .enc p) place (now (out .entry)) r (now (out .exit)) ⌝ }
 {
     let mut near = [0u8; 24];
     lend(out, place, &mut near);
-    let s = loop_filter_params(&mut near, start(place), p, k);
+    let s = loop_filter_params(&mut near, start(place), p, context);
     settle(s, place, &near, out)
 }

@@ -21,13 +21,13 @@ same (negsuc a) (negsuc b) = eqb a b
 unfoldable pub inferredSigned : ℕ → ℤ → Codec ℤ
 inferredSigned e x = single (λ z. demand (same z x) (Inconsistent e 0)) (λ bs. got x bs)
 
--- f(n) of a signed number that is not below 0; one below goes to 2^n, which no n bits hold
+-- f(width) of a signed number that is not below 0; one below goes to 2^width, which no field of that width holds
 abbrev pub natural-out : ℕ → ℤ → ℕ
-natural-out n (pos m) = m
-natural-out n (negsuc m) = 2 ^ n
+natural-out width (pos m) = m
+natural-out width (negsuc m) = 2 ^ width
 
 unfoldable pub natural : ℕ → ℕ → ℕ → Codec ℤ
-natural n e i = recode (natural-out n) pos (f n e i)
+natural width e i = recode (natural-out width) pos (f width e i)
 
 -- a number held between two others
 unfoldable pub clip : ℤ → ℤ → ℤ → ℤ

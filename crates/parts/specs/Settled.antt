@@ -16,17 +16,17 @@ use Rattle.parts.specs.Written.{Written, keep, bytesTo}
 unfoldable pub lent : List ℕ → ℕ → List ℕ → List ℕ
 lent xs place ns = take (length ns) (drop (place / 8) xs) ++ drop (length xs - place / 8) ns
 
--- After a walk to the bit n that left ns in the array: the bytes that it reached go back into the slice, from the i-th on.
+-- After a walk to a bit of the array that left ns there: the bytes that it reached go back into the slice, from the first on.
 abbrev pub putBack : ℕ → ℕ → List ℕ → List ℕ → Written
-putBack n i ns xs =
-    cond (ltb (length xs * 8) (i * 8 + n))
-    (keep (Short (i + bytesTo n)) xs)
-    (record { answer = Done (i * 8 + n); bytes = take i xs ++ (take (bytesTo n) ns ++ drop (bytesTo n) (drop i xs)) })
+putBack at first ns xs =
+    cond (ltb (length xs * 8) (first * 8 + at))
+    (keep (Short (first + bytesTo at)) xs)
+    (record { answer = Done (first * 8 + at); bytes = take first xs ++ (take (bytesTo at) ns ++ drop (bytesTo at) (drop first xs)) })
 
 -- (No part's walk passes the end of its array, and no such array is long.)
 abbrev pub afterNear : Step → ℕ → List ℕ → List ℕ → Written
-afterNear (S.Refused r) i ns xs = keep r xs
-afterNear (S.Next c) i ns xs = cond (ltb 65536 (length ns)) (keep Long xs) (cond (ltb (length ns * 8) (c .at)) (keep Long xs) (putBack (c .at) i ns xs))
+afterNear (S.Refused r) first ns xs = keep r xs
+afterNear (S.Next c) first ns xs = cond (ltb 65536 (length ns)) (keep Long xs) (cond (ltb (length ns * 8) (c .at)) (keep Long xs) (putBack (c .at) first ns xs))
 
 unfoldable pub settled : Step → ℕ → List ℕ → List ℕ → Written
 settled s place ns xs = cond (ltb 65536 (length xs)) (keep Long xs) (afterNear s (place / 8) ns xs)

@@ -9,17 +9,17 @@ ghost use Rattle.parts.specs.Settled.{lent, Settles};
 pub fn lend(out: &[u8], place: u32, near: &mut [u8])
     ensures { λ _. ⌜ now (near .exit) ≡ lent (now (out .entry)) place (now (near .entry)) ⌝ }
 {
-    let i = (place / 8) as usize;
-    let n = out.len();
-    if n <= i {
+    let first = (place / 8) as usize;
+    let len = out.len();
+    if len <= first {
         return;
     }
-    if n - i < near.len() {
-        bytes::copy(&out[i..n], near);
+    if len - first < near.len() {
+        bytes::copy(&out[first..len], near);
         return;
     }
-    let e = i + near.len();
-    bytes::copy(&out[i..e], near);
+    let stop = first + near.len();
+    bytes::copy(&out[first..stop], near);
 }
 
 // Where a part begins in that array.
@@ -35,27 +35,27 @@ pub fn start(place: u32) -> Cursor
 pub fn settle(s: Step, place: u32, near: &[u8], out: &mut [u8]) -> Answer
     ensures { λ r. ⌜ Settles s place (now (near .entry)) (now (out .entry)) r (now (out .exit)) ⌝ }
 {
-    let n = out.len();
-    if 65536 < n {
+    let len = out.len();
+    if 65536 < len {
         return Answer::Refused(Refusal::Long);
     }
     match s {
         Step::Refused(r) => Answer::Refused(r),
         Step::Next(c) => {
-            let m = near.len();
-            if 65536 < m {
+            let room = near.len();
+            if 65536 < room {
                 return Answer::Refused(Refusal::Long);
             }
-            if m * 8 < c.at {
+            if room * 8 < c.at {
                 return Answer::Refused(Refusal::Long);
             }
-            let i = (place / 8) as usize;
-            let k = (c.at + 7) / 8;
-            let end = i * 8 + c.at;
-            if n * 8 < end {
-                return Answer::Refused(Refusal::Short((i + k) as u32));
+            let first = (place / 8) as usize;
+            let count = (c.at + 7) / 8;
+            let end = first * 8 + c.at;
+            if len * 8 < end {
+                return Answer::Refused(Refusal::Short((first + count) as u32));
             }
-            bytes::copy(&near[..k], &mut out[i..]);
+            bytes::copy(&near[..count], &mut out[first..]);
             Answer::Done(end as u32)
         }
     }

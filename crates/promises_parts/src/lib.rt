@@ -15,50 +15,50 @@ ghost use Rattle.restoration.specs.Restoration.{lr-params};
 
 pub fn write_quantization_params(
     q: QuantizationParams,
-    k: QuantizationContext,
+    context: QuantizationContext,
     out: &mut [u8],
     place: u32,
 ) -> Answer
-    ensures { λ r. ⌜ Writes (quantization-params k .enc q) place (now (out .entry)) r (now (out .exit)) ⌝ }
+    ensures { λ r. ⌜ Writes (quantization-params context .enc q) place (now (out .entry)) r (now (out .exit)) ⌝ }
 {
-    quantization::write::write_quantization_params(q, k, out, place)
+    quantization::write::write_quantization_params(q, context, out, place)
 }
 
 pub fn write_segmentation_params(
     p: SegmentationParams,
-    k: SegmentationContext,
+    context: SegmentationContext,
     out: &mut [u8],
     place: u32,
 ) -> Answer
-    ensures { λ r. ⌜ Writes (segmentation-params k .enc p) place (now (out .entry)) r (now (out .exit)) ⌝ }
+    ensures { λ r. ⌜ Writes (segmentation-params context .enc p) place (now (out .entry)) r (now (out .exit)) ⌝ }
 {
-    segmentation::write::write_segmentation_params(p, k, out, place)
+    segmentation::write::write_segmentation_params(p, context, out, place)
 }
 
 pub fn write_loop_filter_params(
     p: LoopFilterParams,
-    k: LoopFilterContext,
+    context: LoopFilterContext,
     out: &mut [u8],
     place: u32,
 ) -> Answer
-    ensures { λ r. ⌜ Writes (loop-filter-params k no-old .enc p) place (now (out .entry)) r (now (out .exit)) ⌝ }
+    ensures { λ r. ⌜ Writes (loop-filter-params context no-old .enc p) place (now (out .entry)) r (now (out .exit)) ⌝ }
 {
-    loop_filter::write::write_loop_filter_params(p, k, out, place)
+    loop_filter::write::write_loop_filter_params(p, context, out, place)
 }
 
-pub fn write_cdef_params(p: CdefParams, k: CdefContext, out: &mut [u8], place: u32) -> Answer
-    ensures { λ r. ⌜ Writes (cdef-params k .enc p) place (now (out .entry)) r (now (out .exit)) ⌝ }
+pub fn write_cdef_params(p: CdefParams, context: CdefContext, out: &mut [u8], place: u32) -> Answer
+    ensures { λ r. ⌜ Writes (cdef-params context .enc p) place (now (out .entry)) r (now (out .exit)) ⌝ }
 {
-    cdef::write::write_cdef_params(p, k, out, place)
+    cdef::write::write_cdef_params(p, context, out, place)
 }
 
 pub fn write_lr_params(
     p: LoopRestorationParams,
-    k: LoopRestorationContext,
+    context: LoopRestorationContext,
     out: &mut [u8],
     place: u32,
 ) -> Answer
-    ensures { λ r. ⌜ Writes (lr-params k .enc p) place (now (out .entry)) r (now (out .exit)) ⌝ }
+    ensures { λ r. ⌜ Writes (lr-params context .enc p) place (now (out .entry)) r (now (out .exit)) ⌝ }
 {
-    restoration::write::write_lr_params(p, k, out, place)
+    restoration::write::write_lr_params(p, context, out, place)
 }

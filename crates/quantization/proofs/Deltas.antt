@@ -1,4 +1,4 @@
--- How read_delta_q meets its table.
+-- How write_delta_q meets its table.
 use mathlib.Core.Path.{_≡_, refl, ap}
 use mathlib.Core.List.{List}
 use mathlib.Core.Bool.{Bool, true, false, not}

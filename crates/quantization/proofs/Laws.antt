@@ -70,10 +70,10 @@ qmatrix-law : (separate : Bool) → Lawful loose (qmatrix separate)
 unfolding qmatrix
 qmatrix-law separate = search (codec-laws, matrices-law) depth 12
 
-table-law : (k : QuantizationContext) → Lawful loose (quantization-table k)
+table-law : (context : QuantizationContext) → Lawful loose (quantization-table context)
 unfolding quantization-table
-table-law k = search (codec-laws, delta-law, chroma-law, qmatrix-law) depth 12
+table-law context = search (codec-laws, delta-law, chroma-law, qmatrix-law) depth 12
 
-pub quantization-law : (k : QuantizationContext) → Lawful loose (quantization-params k)
+pub quantization-law : (context : QuantizationContext) → Lawful loose (quantization-params context)
 unfolding quantization-params
-quantization-law k = via-law quantization-out quantization-in (table-law k) (λ a. refl)
+quantization-law context = via-law quantization-out quantization-in (table-law context) (λ a. refl)

@@ -80,11 +80,11 @@ abbrev pub QuantizationTable : Type 0
 QuantizationTable = ℕ × (ℤ × (Chroma × (Bool × Matrices)))
 
 unfoldable pub quantization-table : QuantizationContext → Codec QuantizationTable
-quantization-table k =
+quantization-table context =
     f 8 base-q-idx 0 ▷ λ _.
     read-delta-q delta-q-y-dc ▷ λ _.
-    chroma (k .planes) (k .«separate_uv_delta_q») ▷ λ _.
-    qmatrix (k .«separate_uv_delta_q»)
+    chroma (context .planes) (context .«separate_uv_delta_q») ▷ λ _.
+    qmatrix (context .«separate_uv_delta_q»)
 
 -- the record for its table
 abbrev pub v-out : QuantizationParams → ℤ × ℤ
@@ -121,4 +121,4 @@ quantization-in = λ (base, (y-dc, ((diff, (u-dc, (u-ac, (v-dc, v-ac)))), (coded
 }
 
 unfoldable pub quantization-params : QuantizationContext → Codec QuantizationParams
-quantization-params k = via quantization-out quantization-in (quantization-table k)
+quantization-params context = via quantization-out quantization-in (quantization-table context)

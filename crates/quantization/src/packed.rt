@@ -4,7 +4,7 @@ use writer::*;
 ghost use Rattle.bits.specs.Walk.{Walked};
 ghost use Rattle.quantization.specs.Quantization.{read-delta-q};
 
-pub fn read_delta_q(out: &mut [u8], c: Cursor, delta: i8, element: u8) -> Step
+pub fn write_delta_q(out: &mut [u8], c: Cursor, delta: i8, element: u8) -> Step
     ensures { λ s. ⌜ Walked (read-delta-q element .enc delta) c (now (out .entry)) s (now (out .exit)) ⌝ }
 {
     if delta == 0 {

@@ -1,5 +1,5 @@
 // 5.9.12 quantization_params, written.
-use crate::packed::read_delta_q;
+use crate::packed::write_delta_q;
 use crate::record::*;
 use bits::answer::*;
 use bits::element::*;
@@ -24,11 +24,11 @@ fn diff_uv(out: &mut [u8], c: Cursor, separate: bool, diff: bool) -> Step
 fn v_coded(out: &mut [u8], c: Cursor, q: QuantizationParams) -> Step
     ensures { λ s. ⌜ Walked (v-coded .enc (v-out q)) c (now (out .entry)) s (now (out .exit)) ⌝ }
 {
-    let s = read_delta_q(out, c, q.delta_q_v_dc, DELTA_Q_V_DC);
+    let s = write_delta_q(out, c, q.delta_q_v_dc, DELTA_Q_V_DC);
     let Step::Next(c) = s else {
         return s;
     };
-    read_delta_q(out, c, q.delta_q_v_ac, DELTA_Q_V_AC)
+    write_delta_q(out, c, q.delta_q_v_ac, DELTA_Q_V_AC)
 }
 
 fn v_inferred(out: &mut [u8], c: Cursor, q: QuantizationParams) -> Step
@@ -53,11 +53,11 @@ fn v_deltas(out: &mut [u8], c: Cursor, q: QuantizationParams) -> Step
 fn uv_deltas(out: &mut [u8], c: Cursor, q: QuantizationParams) -> Step
     ensures { λ s. ⌜ Walked (uv-deltas (q .«diff_uv_delta») .enc (uv-out q)) c (now (out .entry)) s (now (out .exit)) ⌝ }
 {
-    let s = read_delta_q(out, c, q.delta_q_u_dc, DELTA_Q_U_DC);
+    let s = write_delta_q(out, c, q.delta_q_u_dc, DELTA_Q_U_DC);
     let Step::Next(c) = s else {
         return s;
     };
-    let s = read_delta_q(out, c, q.delta_q_u_ac, DELTA_Q_U_AC);
+    let s = write_delta_q(out, c, q.delta_q_u_ac, DELTA_Q_U_AC);
     let Step::Next(c) = s else {
         return s;
     };
@@ -128,36 +128,36 @@ fn quantization_params(
     out: &mut [u8],
     c: Cursor,
     q: QuantizationParams,
-    k: QuantizationContext,
+    context: QuantizationContext,
 ) -> Step
-    ensures { λ s. ⌜ Walked (quantization-params k .enc q) c (now (out .entry)) s (now (out .exit)) ⌝ }
+    ensures { λ s. ⌜ Walked (quantization-params context .enc q) c (now (out .entry)) s (now (out .exit)) ⌝ }
 {
     let s = f(out, c, 8, q.base_q_idx, BASE_Q_IDX, 0);
     let Step::Next(c) = s else {
         return s;
     };
-    let s = read_delta_q(out, c, q.delta_q_y_dc, DELTA_Q_Y_DC);
+    let s = write_delta_q(out, c, q.delta_q_y_dc, DELTA_Q_Y_DC);
     let Step::Next(c) = s else {
         return s;
     };
-    let s = chroma(out, c, k.planes, k.separate_uv_delta_q, q);
+    let s = chroma(out, c, context.planes, context.separate_uv_delta_q, q);
     let Step::Next(c) = s else {
         return s;
     };
-    qmatrix(out, c, k.separate_uv_delta_q, q)
+    qmatrix(out, c, context.separate_uv_delta_q, q)
 }
 
 // The part written from the bit `place` of `out` on.
 pub fn write_quantization_params(
     q: QuantizationParams,
-    k: QuantizationContext,
+    context: QuantizationContext,
     out: &mut [u8],
     place: u32,
 ) -> Answer
-    ensures { λ r. ⌜ Writes (quantization-params k .enc q) place (now (out .entry)) r (now (out .exit)) ⌝ }
+    ensures { λ r. ⌜ Writes (quantization-params context .enc q) place (now (out .entry)) r (now (out .exit)) ⌝ }
 {
     let mut near = [0u8; 24];
     lend(out, place, &mut near);
-    let s = quantization_params(&mut near, start(place), q, k);
+    let s = quantization_params(&mut near, start(place), q, context);
     settle(s, place, &near, out)
 }

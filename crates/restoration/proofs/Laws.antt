@@ -58,13 +58,13 @@ uv-law : (coded : Bool) → Lawful loose (uv-shift coded)
 unfolding uv-shift
 uv-law coded = search codec-laws depth 12
 
-shifts-law : (k : LoopRestorationContext) (chroma : Bool) → Lawful loose (shifts k chroma)
+shifts-law : (context : LoopRestorationContext) (chroma : Bool) → Lawful loose (shifts context chroma)
 unfolding shifts
-shifts-law k chroma = search (codec-laws, unit-law, uv-law) depth 12
+shifts-law context chroma = search (codec-laws, unit-law, uv-law) depth 12
 
-uses-law : (k : LoopRestorationContext) (any chroma : Bool) → Lawful loose (uses k any chroma)
+uses-law : (context : LoopRestorationContext) (restored chroma : Bool) → Lawful loose (uses context restored chroma)
 unfolding uses
-uses-law k any chroma = search (codec-laws, shifts-law) depth 12
+uses-law context restored chroma = search (codec-laws, shifts-law) depth 12
 
 kinds-law : Lawful loose kinds
 unfolding kinds
@@ -78,10 +78,10 @@ no-kinds-law : Lawful loose no-kinds
 unfolding no-kinds
 no-kinds-law = search codec-laws depth 12
 
-planes-law : (k : LoopRestorationContext) → Lawful loose (lr-table k)
+planes-law : (context : LoopRestorationContext) → Lawful loose (lr-table context)
 unfolding lr-table three-planes one-plane no-planes
-planes-law k = search (codec-laws, kinds-law, one-kind-law, no-kinds-law, uses-law) depth 12
+planes-law context = search (codec-laws, kinds-law, one-kind-law, no-kinds-law, uses-law) depth 12
 
-pub lr-law : (k : LoopRestorationContext) → Lawful loose (lr-params k)
+pub lr-law : (context : LoopRestorationContext) → Lawful loose (lr-params context)
 unfolding lr-params
-lr-law k = via-law lr-out lr-in (planes-law k) (λ a. refl)
+lr-law context = via-law lr-out lr-in (planes-law context) (λ a. refl)

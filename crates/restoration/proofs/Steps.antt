@@ -46,13 +46,13 @@ module _ (v : ℕ) {c : Cursor} {xs ys : List ℕ} {s : Step} where
 pub uv-by : (a b : Bool) (v : ℕ) {c : Cursor} {xs ys : List ℕ} {s : Step} → a ≡ b → Walked (uv-shift a .enc v) c xs s ys → Walked (uv-shift b .enc v) c xs s ys
 uv-by a b v h g = rw h at g
 
-module _ (k : LoopRestorationContext) (v : Uses) {c : Cursor} {xs ys : List ℕ} {s : Step} where
-  pub one-by : (any : Bool) (y : ℕ) → any ≡ used y false → Walked (uses k any false .enc v) c xs s ys → Walked (uses k (used y false) false .enc v) c xs s ys
-  one-by any y h g = rw h at g
+module _ (context : LoopRestorationContext) (v : Uses) {c : Cursor} {xs ys : List ℕ} {s : Step} where
+  pub one-by : (restored : Bool) (y : ℕ) → restored ≡ used y false → Walked (uses context restored false .enc v) c xs s ys → Walked (uses context (used y false) false .enc v) c xs s ys
+  one-by restored y h g = rw h at g
 
-  pub three-by : (any chroma : Bool) (y u w : ℕ) → chroma ≡ chroma-used u w → any ≡ used y chroma → Walked (uses k any chroma .enc v) c xs s ys
-      → Walked (uses k (used y (chroma-used u w)) (chroma-used u w) .enc v) c xs s ys
-  three-by any chroma y u w h q g = rw (← h, ← q) g
+  pub three-by : (restored chroma : Bool) (y u w : ℕ) → chroma ≡ chroma-used u w → restored ≡ used y chroma → Walked (uses context restored chroma .enc v) c xs s ys
+      → Walked (uses context (used y (chroma-used u w)) (chroma-used u w) .enc v) c xs s ys
+  three-by restored chroma y u w h q g = rw (← h, ← q) g
 
 -- whether planes are used
 pub used-not : (y : ℕ) (chroma : Bool) → y ≡ 0 → chroma ≡ used y chroma

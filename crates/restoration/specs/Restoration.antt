@@ -37,9 +37,9 @@ unfoldable pub uv-shift : Bool → Codec ℕ
 uv-shift coded = choose coded (f 1 lr-uv-shift 0) (inferred lr-uv-shift 0 0)
 
 unfoldable pub shifts : LoopRestorationContext → Bool → Codec (ℕ × ℕ)
-shifts k chroma =
-    unit-shift (k .«use_128x128_superblock») ▷ λ _.
-    uv-shift (k .«subsampling_x» && k .«subsampling_y» && chroma)
+shifts context chroma =
+    unit-shift (context .«use_128x128_superblock») ▷ λ _.
+    uv-shift (context .«subsampling_x» && context .«subsampling_y» && chroma)
 
 -- whether a plane is restored, from the luma kind and from chroma; and chroma, from its two kinds
 abbrev pub used : ℕ → Bool → Bool
@@ -52,10 +52,10 @@ abbrev pub Uses : Type 0
 Uses = Bool × (Bool × (ℕ × ℕ))
 
 unfoldable pub uses : LoopRestorationContext → Bool → Bool → Codec Uses
-uses k any chroma =
-    inferredFlag uses-lr 0 any ▷ λ _.
+uses context restored chroma =
+    inferredFlag uses-lr 0 restored ▷ λ _.
     inferredFlag uses-chroma-lr 0 chroma ▷ λ _.
-    choose any (shifts k chroma) (absent (0, 0))
+    choose restored (shifts context chroma) (absent (0, 0))
 
 -- the kinds of the planes: none 0, switchable 1, Wiener 2, self-guided 3
 abbrev pub Kinds : Type 0
@@ -68,13 +68,13 @@ kinds =
     f 2 frame-restoration-type 2
 
 unfoldable pub three-planes : LoopRestorationContext → Codec (Kinds × Uses)
-three-planes k = kinds ▷ λ (y, (u, v)). uses k (used y (chroma-used u v)) (chroma-used u v)
+three-planes context = kinds ▷ λ (y, (u, v)). uses context (used y (chroma-used u v)) (chroma-used u v)
 
 unfoldable pub one-kind : Codec Kinds
 one-kind = f 2 frame-restoration-type 0 ▷ λ _. absent (0, 0)
 
 unfoldable pub one-plane : LoopRestorationContext → Codec (Kinds × Uses)
-one-plane k = one-kind ▷ λ (y, _). uses k (used y false) false
+one-plane context = one-kind ▷ λ (y, _). uses context (used y false) false
 
 unfoldable pub no-kinds : Codec Kinds
 no-kinds =
@@ -89,9 +89,9 @@ no-planes =
     absent (false, (0, 0))
 
 unfoldable pub lr-table : LoopRestorationContext → Codec (Kinds × Uses)
-lr-table k =
-    choose (k .«all_lossless» || k .«allow_intrabc» || not (k .«enable_restoration»)) no-planes
-    (choose (eqb (k .planes) 1) (one-plane k) (three-planes k))
+lr-table context =
+    choose (context .«all_lossless» || context .«allow_intrabc» || not (context .«enable_restoration»)) no-planes
+    (choose (eqb (context .planes) 1) (one-plane context) (three-planes context))
 
 -- the record for its table
 abbrev pub kinds-out : LoopRestorationParams → Kinds
@@ -107,13 +107,13 @@ abbrev pub lr-out : LoopRestorationParams → Kinds × Uses
 lr-out p = (kinds-out p, uses-out p)
 
 abbrev pub lr-in : Kinds × Uses → LoopRestorationParams
-lr-in = λ ((y, (u, v)), (any, (chroma, (unit, uv)))). record {
+lr-in = λ ((y, (u, v)), (restored, (chroma, (unit, uv)))). record {
   «frame_restoration_type» = y ∷ u ∷ v ∷ [];
-  «uses_lr» = any;
+  «uses_lr» = restored;
   «uses_chroma_lr» = chroma;
   «lr_unit_shift» = unit;
   «lr_uv_shift» = uv;
 }
 
 unfoldable pub lr-params : LoopRestorationContext → Codec LoopRestorationParams
-lr-params k = via lr-out lr-in (lr-table k)
+lr-params context = via lr-out lr-in (lr-table context)

@@ -13,63 +13,63 @@ ghost use Rattle.bits.specs.Walk.{Walked};
 ghost use Rattle.parts.specs.Written.{Writes};
 ghost use Rattle.restoration.specs.Restoration.{large-shift, small-shift, unit-shift, uv-shift, shifts, shifts-out, used, chroma-used, uses, uses-out, kinds-out, three-planes, one-plane, no-kinds, no-planes, lr-out, lr-params};
 
-fn large_shift(out: &mut [u8], c: Cursor, v: u32) -> Step
-    ensures { λ s. ⌜ Walked (large-shift .enc v) c (now (out .entry)) s (now (out .exit)) ⌝ }
+fn large_shift(out: &mut [u8], c: Cursor, shift: u32) -> Step
+    ensures { λ s. ⌜ Walked (large-shift .enc shift) c (now (out .entry)) s (now (out .exit)) ⌝ }
 {
-    if v == 0 {
+    if shift == 0 {
         return Step::Refused(Refusal::Inconsistent(LR_UNIT_SHIFT, 0));
     }
-    f(out, c, 1, v - 1, LR_UNIT_SHIFT, 0)
+    f(out, c, 1, shift - 1, LR_UNIT_SHIFT, 0)
 }
 
-fn small_shift(out: &mut [u8], c: Cursor, v: u32) -> Step
-    ensures { λ s. ⌜ Walked (small-shift .enc v) c (now (out .entry)) s (now (out .exit)) ⌝ }
+fn small_shift(out: &mut [u8], c: Cursor, shift: u32) -> Step
+    ensures { λ s. ⌜ Walked (small-shift .enc shift) c (now (out .entry)) s (now (out .exit)) ⌝ }
 {
-    if v == 0 {
+    if shift == 0 {
         return flag(out, c, false);
     }
     let s = flag(out, c, true);
     let Step::Next(c) = s else {
         return s;
     };
-    f(out, c, 1, v - 1, LR_UNIT_SHIFT, 0)
+    f(out, c, 1, shift - 1, LR_UNIT_SHIFT, 0)
 }
 
-fn unit_shift(out: &mut [u8], c: Cursor, large: bool, v: u32) -> Step
-    ensures { λ s. ⌜ Walked (unit-shift large .enc v) c (now (out .entry)) s (now (out .exit)) ⌝ }
+fn unit_shift(out: &mut [u8], c: Cursor, large: bool, shift: u32) -> Step
+    ensures { λ s. ⌜ Walked (unit-shift large .enc shift) c (now (out .entry)) s (now (out .exit)) ⌝ }
 {
     if large {
-        return large_shift(out, c, v);
+        return large_shift(out, c, shift);
     }
-    small_shift(out, c, v)
+    small_shift(out, c, shift)
 }
 
-fn uv_shift(out: &mut [u8], c: Cursor, coded: bool, v: u32) -> Step
-    ensures { λ s. ⌜ Walked (uv-shift coded .enc v) c (now (out .entry)) s (now (out .exit)) ⌝ }
+fn uv_shift(out: &mut [u8], c: Cursor, coded: bool, shift: u32) -> Step
+    ensures { λ s. ⌜ Walked (uv-shift coded .enc shift) c (now (out .entry)) s (now (out .exit)) ⌝ }
 {
     if coded {
-        return f(out, c, 1, v, LR_UV_SHIFT, 0);
+        return f(out, c, 1, shift, LR_UV_SHIFT, 0);
     }
-    demand(out, c, v == 0, LR_UV_SHIFT, 0)
+    demand(out, c, shift == 0, LR_UV_SHIFT, 0)
 }
 
 fn shifts(
     out: &mut [u8],
     c: Cursor,
     p: LoopRestorationParams,
-    k: LoopRestorationContext,
+    context: LoopRestorationContext,
     chroma: bool,
 ) -> Step
-    ensures { λ s. ⌜ Walked (shifts k chroma .enc (shifts-out p)) c (now (out .entry)) s (now (out .exit)) ⌝ }
+    ensures { λ s. ⌜ Walked (shifts context chroma .enc (shifts-out p)) c (now (out .entry)) s (now (out .exit)) ⌝ }
 {
-    let s = unit_shift(out, c, k.use_128x128_superblock, p.lr_unit_shift);
+    let s = unit_shift(out, c, context.use_128x128_superblock, p.lr_unit_shift);
     let Step::Next(c) = s else {
         return s;
     };
     uv_shift(
         out,
         c,
-        all(k.subsampling_x, k.subsampling_y, chroma),
+        all(context.subsampling_x, context.subsampling_y, chroma),
         p.lr_uv_shift,
     )
 }
@@ -78,13 +78,13 @@ fn uses(
     out: &mut [u8],
     c: Cursor,
     p: LoopRestorationParams,
-    k: LoopRestorationContext,
-    any: bool,
+    context: LoopRestorationContext,
+    restored: bool,
     chroma: bool,
 ) -> Step
-    ensures { λ s. ⌜ Walked (uses k any chroma .enc (uses-out p)) c (now (out .entry)) s (now (out .exit)) ⌝ }
+    ensures { λ s. ⌜ Walked (uses context restored chroma .enc (uses-out p)) c (now (out .entry)) s (now (out .exit)) ⌝ }
 {
-    let s = inferred_flag(out, c, p.uses_lr, any, USES_LR);
+    let s = inferred_flag(out, c, p.uses_lr, restored, USES_LR);
     let Step::Next(c) = s else {
         return s;
     };
@@ -92,8 +92,8 @@ fn uses(
     let Step::Next(c) = s else {
         return s;
     };
-    if any {
-        return shifts(out, c, p, k, chroma);
+    if restored {
+        return shifts(out, c, p, context, chroma);
     }
     Step::Next(c)
 }
@@ -114,21 +114,26 @@ fn three_planes(
     out: &mut [u8],
     c: Cursor,
     p: LoopRestorationParams,
-    k: LoopRestorationContext,
+    context: LoopRestorationContext,
 ) -> Step
-    ensures { λ s. ⌜ Walked (three-planes k .enc (lr-out p)) c (now (out .entry)) s (now (out .exit)) ⌝ }
+    ensures { λ s. ⌜ Walked (three-planes context .enc (lr-out p)) c (now (out .entry)) s (now (out .exit)) ⌝ }
 {
     let s = kinds(out, c, p);
     let Step::Next(c) = s else {
         return s;
     };
     let chroma = chroma_used(p.frame_restoration_type[1], p.frame_restoration_type[2]);
-    let any = used(p.frame_restoration_type[0], chroma);
-    uses(out, c, p, k, any, chroma)
+    let restored = used(p.frame_restoration_type[0], chroma);
+    uses(out, c, p, context, restored, chroma)
 }
 
-fn one_plane(out: &mut [u8], c: Cursor, p: LoopRestorationParams, k: LoopRestorationContext) -> Step
-    ensures { λ s. ⌜ Walked (one-plane k .enc (lr-out p)) c (now (out .entry)) s (now (out .exit)) ⌝ }
+fn one_plane(
+    out: &mut [u8],
+    c: Cursor,
+    p: LoopRestorationParams,
+    context: LoopRestorationContext,
+) -> Step
+    ensures { λ s. ⌜ Walked (one-plane context .enc (lr-out p)) c (now (out .entry)) s (now (out .exit)) ⌝ }
 {
     let s = f(
         out,
@@ -145,7 +150,7 @@ fn one_plane(out: &mut [u8], c: Cursor, p: LoopRestorationParams, k: LoopRestora
         out,
         c,
         p,
-        k,
+        context,
         used(p.frame_restoration_type[0], false),
         false,
     )
@@ -193,29 +198,38 @@ fn no_planes(out: &mut [u8], c: Cursor, p: LoopRestorationParams) -> Step
     demand(out, c, !p.uses_lr, USES_LR, 0)
 }
 
-fn lr_params(out: &mut [u8], c: Cursor, p: LoopRestorationParams, k: LoopRestorationContext) -> Step
-    ensures { λ s. ⌜ Walked (lr-params k .enc p) c (now (out .entry)) s (now (out .exit)) ⌝ }
+fn lr_params(
+    out: &mut [u8],
+    c: Cursor,
+    p: LoopRestorationParams,
+    context: LoopRestorationContext,
+) -> Step
+    ensures { λ s. ⌜ Walked (lr-params context .enc p) c (now (out .entry)) s (now (out .exit)) ⌝ }
 {
-    if any(k.all_lossless, k.allow_intrabc, !k.enable_restoration) {
+    if any(
+        context.all_lossless,
+        context.allow_intrabc,
+        !context.enable_restoration,
+    ) {
         return no_planes(out, c, p);
     }
-    if k.planes == 1 {
-        return one_plane(out, c, p, k);
+    if context.planes == 1 {
+        return one_plane(out, c, p, context);
     }
-    three_planes(out, c, p, k)
+    three_planes(out, c, p, context)
 }
 
 // The part written from the bit `place` of `out` on.
 pub fn write_lr_params(
     p: LoopRestorationParams,
-    k: LoopRestorationContext,
+    context: LoopRestorationContext,
     out: &mut [u8],
     place: u32,
 ) -> Answer
-    ensures { λ r. ⌜ Writes (lr-params k .enc p) place (now (out .entry)) r (now (out .exit)) ⌝ }
+    ensures { λ r. ⌜ Writes (lr-params context .enc p) place (now (out .entry)) r (now (out .exit)) ⌝ }
 {
     let mut near = [0u8; 16];
     lend(out, place, &mut near);
-    let s = lr_params(&mut near, start(place), p, k);
+    let s = lr_params(&mut near, start(place), p, context);
     settle(s, place, &near, out)
 }

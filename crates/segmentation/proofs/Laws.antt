@@ -77,10 +77,10 @@ enabled-law : (primary : ℕ) → Lawful loose (enabled-params primary)
 unfolding enabled-params with-reference without-reference
 enabled-law primary = search (codec-laws, coded-law, inferred-law, features-if-law) depth 12
 
-table-law : (k : SegmentationContext) → Lawful loose (segmentation-table k)
+table-law : (context : SegmentationContext) → Lawful loose (segmentation-table context)
 unfolding segmentation-table
-table-law k = search (codec-laws, enabled-law) depth 12
+table-law context = search (codec-laws, enabled-law) depth 12
 
-pub segmentation-law : (k : SegmentationContext) → Lawful loose (segmentation-params k)
+pub segmentation-law : (context : SegmentationContext) → Lawful loose (segmentation-params context)
 unfolding segmentation-params
-segmentation-law k = via-law segmentation-out segmentation-in (table-law k) (λ a. refl)
+segmentation-law context = via-law segmentation-out segmentation-in (table-law context) (λ a. refl)

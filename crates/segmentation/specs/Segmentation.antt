@@ -85,7 +85,7 @@ abbrev pub none : Updates × Features
 none = ((false, (false, false)), (replicate 64 false, replicate 64 (pos 0)))
 
 unfoldable pub segmentation-table : SegmentationContext → Codec (Bool × (Updates × Features))
-segmentation-table k = flag ▷ λ enabled. choose enabled (enabled-params (k .«primary_ref_frame»)) (absent none)
+segmentation-table context = flag ▷ λ enabled. choose enabled (enabled-params (context .«primary_ref_frame»)) (absent none)
 
 -- the record for its table
 abbrev pub updates-out : SegmentationParams → Updates
@@ -111,4 +111,4 @@ segmentation-in = λ (enabled, ((map, (temporal, update)), (flags, values))). re
 }
 
 unfoldable pub segmentation-params : SegmentationContext → Codec SegmentationParams
-segmentation-params k = via segmentation-out segmentation-in (segmentation-table k)
+segmentation-params context = via segmentation-out segmentation-in (segmentation-table context)

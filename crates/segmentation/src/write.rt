@@ -160,16 +160,16 @@ fn segmentation_params(
     out: &mut [u8],
     c: Cursor,
     p: SegmentationParams,
-    k: SegmentationContext,
+    context: SegmentationContext,
 ) -> Step
-    ensures { λ s. ⌜ Walked (segmentation-params k .enc p) c (now (out .entry)) s (now (out .exit)) ⌝ }
+    ensures { λ s. ⌜ Walked (segmentation-params context .enc p) c (now (out .entry)) s (now (out .exit)) ⌝ }
 {
     let s = flag(out, c, p.segmentation_enabled);
     let Step::Next(c) = s else {
         return s;
     };
     if p.segmentation_enabled {
-        if k.primary_ref_frame == 7 {
+        if context.primary_ref_frame == 7 {
             return without_reference(out, c, p);
         }
         return with_reference(out, c, p);
@@ -180,14 +180,14 @@ fn segmentation_params(
 // The part written from the bit `place` of `out` on.
 pub fn write_segmentation_params(
     p: SegmentationParams,
-    k: SegmentationContext,
+    context: SegmentationContext,
     out: &mut [u8],
     place: u32,
 ) -> Answer
-    ensures { λ r. ⌜ Writes (segmentation-params k .enc p) place (now (out .entry)) r (now (out .exit)) ⌝ }
+    ensures { λ r. ⌜ Writes (segmentation-params context .enc p) place (now (out .entry)) r (now (out .exit)) ⌝ }
 {
     let mut near = [0u8; 64];
     lend(out, place, &mut near);
-    let s = segmentation_params(&mut near, start(place), p, k);
+    let s = segmentation_params(&mut near, start(place), p, context);
     settle(s, place, &near, out)
 }

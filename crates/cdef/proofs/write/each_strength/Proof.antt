@@ -8,10 +8,10 @@ use Rattle.cdef.proofs.write.each_strength.Statement.{statement}
 use Rattle.cdef.proofs.write.each_strength.Tie as tie
 
 abbrev Inv-loop : tie.InvT-loop
-Inv-loop out₀ planes n p c₀ i₀ out c i = Each (each-strength planes n .enc (strengths-out p)) c₀ out₀ none (strengths planes) 8 n (strengths-out p) i c out
+Inv-loop out₀ planes count p c₀ i₀ out c i = Each (each-strength planes count .enc (strengths-out p)) c₀ out₀ none (strengths planes) 8 count (strengths-out p) i c out
 
 abbrev μ-loop : tie.MeasureT-loop
-μ-loop out₀ planes n p c₀ i₀ out c i = n - i
+μ-loop out₀ planes count p c₀ i₀ out c i = count - i
 
 returns : tie.Need-returns Inv-loop μ-loop
 returns c = search each-halt

@@ -10,9 +10,9 @@ use Rattle.parts.proofs.Writing.{Few, once}
 use Rattle.cdef.proofs.write.write_cdef_params.Statement.{statement}
 use Rattle.cdef.proofs.write.write_cdef_params.Tie as tie
 
-few : (k : CdefContext) (p : CdefParams) → Few 24 (cdef-params k .enc p)
+few : (context : CdefContext) (p : CdefParams) → Few 24 (cdef-params context .enc p)
 unfolding bound damping secondary strength strengths each-strength on-table no-strength no-place no-strengths off-table cdef-on cdef-off cdef-params _▷_ choose checked recode via array f absent inferred
-few k p = record { most = lit≤ tt; size = lit≤ tt }
+few context p = record { most = lit≤ tt; size = lit≤ tt }
 
 pub write-cdef-params-spec : {M : Type 1} → statement M
 write-cdef-params-spec =

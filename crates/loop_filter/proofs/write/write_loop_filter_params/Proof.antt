@@ -12,9 +12,9 @@ use Rattle.parts.proofs.Writing.{Few, once}
 use Rattle.loop_filter.proofs.write.write_loop_filter_params.Statement.{statement}
 use Rattle.loop_filter.proofs.write.write_loop_filter_params.Tie as tie
 
-few : (k : LoopFilterContext) (p : LoopFilterParams) → Few 24 (loop-filter-params k no-old .enc p)
+few : (context : LoopFilterContext) (p : LoopFilterParams) → Few 24 (loop-filter-params context no-old .enc p)
 unfolding bound chroma-levels levels delta ref-deltas mode-deltas deltas delta-update rest filter-on default-refs default-modes no-levels no-rest filter-off loop-filter-table loop-filter-params inferredSigned su _▷_ choose recode merged via array f flag absent inferred
-few k p = record { most = lit≤ tt; size = lit≤ tt }
+few context p = record { most = lit≤ tt; size = lit≤ tt }
 
 pub write-loop-filter-params-spec : {M : Type 1} → statement M
 write-loop-filter-params-spec =

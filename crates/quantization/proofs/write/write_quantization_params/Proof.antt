@@ -12,9 +12,9 @@ use Rattle.parts.proofs.Writing.{Few, once}
 use Rattle.quantization.proofs.write.write_quantization_params.Statement.{statement}
 use Rattle.quantization.proofs.write.write_quantization_params.Tie as tie
 
-few : (k : QuantizationContext) (q : QuantizationParams) → Few 24 (quantization-params k .enc q)
+few : (context : QuantizationContext) (q : QuantizationParams) → Few 24 (quantization-params context .enc q)
 unfolding bound read-delta-q diff-uv v-coded v-inferred v-deltas uv-deltas no-uv-deltas three-planes one-plane chroma v-matrix matrices qmatrix quantization-table quantization-params inferredSigned su _▷_ choose select via merged recode f flag absent inferred inferredFlag
-few k q = record { most = lit≤ tt; size = lit≤ tt }
+few context q = record { most = lit≤ tt; size = lit≤ tt }
 
 pub write-quantization-params-spec : {M : Type 1} → statement M
 write-quantization-params-spec =

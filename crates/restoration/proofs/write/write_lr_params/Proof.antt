@@ -10,9 +10,9 @@ use Rattle.parts.proofs.Writing.{Few, once}
 use Rattle.restoration.proofs.write.write_lr_params.Statement.{statement}
 use Rattle.restoration.proofs.write.write_lr_params.Tie as tie
 
-few : (k : LoopRestorationContext) (p : LoopRestorationParams) → Few 16 (lr-params k .enc p)
+few : (context : LoopRestorationContext) (p : LoopRestorationParams) → Few 16 (lr-params context .enc p)
 unfolding bound large-shift small-shift unit-shift uv-shift shifts uses kinds three-planes one-kind one-plane no-kinds no-planes lr-table lr-params _▷_ choose checked recode merged via f flag absent inferred inferredFlag
-few k p = record { most = lit≤ tt; size = lit≤ tt }
+few context p = record { most = lit≤ tt; size = lit≤ tt }
 
 pub write-lr-params-spec : {M : Type 1} → statement M
 write-lr-params-spec =

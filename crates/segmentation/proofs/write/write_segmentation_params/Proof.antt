@@ -12,9 +12,9 @@ use Rattle.parts.proofs.Writing.{Few, once}
 use Rattle.segmentation.proofs.write.write_segmentation_params.Statement.{statement}
 use Rattle.segmentation.proofs.write.write_segmentation_params.Tie as tie
 
-few : (k : SegmentationContext) (p : SegmentationParams) → Few 64 (segmentation-params k .enc p)
+few : (context : SegmentationContext) (p : SegmentationParams) → Few 64 (segmentation-params context .enc p)
 unfolding bound signed-value unsigned-value feature-value feature features no-flags no-data no-features features-if temporal-update coded-updates inferred-updates with-reference without-reference enabled-params segmentation-table segmentation-params inferredSigned natural trimmed su _▷_ choose recode via array f flag absent inferredFlag
-few k p = record { most = lit≤ tt; size = lit≤ tt }
+few context p = record { most = lit≤ tt; size = lit≤ tt }
 
 pub write-segmentation-params-spec : {M : Type 1} → statement M
 write-segmentation-params-spec =

@@ -2,11 +2,11 @@ use mir.Syntax.{w8, w16}
 use borrow.Author.Needs.{needs}
 use Rattle.writer.proofs.SuCodes.{wide-fits}
 use Rattle.quantization.proofs.Deltas.{delta-zero, delta-packed, delta-halt, delta-coded}
-use Rattle.quantization.proofs.packed.read_delta_q.Statement.{statement}
-use Rattle.quantization.proofs.packed.read_delta_q.Tie as tie
+use Rattle.quantization.proofs.packed.write_delta_q.Statement.{statement}
+use Rattle.quantization.proofs.packed.write_delta_q.Tie as tie
 
-pub read-delta-q-spec : {M : Type 1} → statement M
-read-delta-q-spec =
+pub write-delta-q-spec : {M : Type 1} → statement M
+write-delta-q-spec =
     tie.close
     (tie.spec
     (λ c κs. search needs) (λ c. search needs) (λ c. search delta-zero)
