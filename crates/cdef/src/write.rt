@@ -3,7 +3,6 @@ use crate::packed::strengths;
 use crate::record::*;
 use bits::answer::*;
 use bits::element::*;
-use parts::answer::Answer;
 use parts::inferred::any;
 use parts::pair::pair;
 use parts::place::*;

@@ -13,7 +13,6 @@ use Rattle.obu.specs.declared.header.ObuHeader.{ObuHeader}
 use Rattle.obu.specs.Delimiter.{temporal-delimiter}
 use Rattle.obu.specs.Demand3.{read}
 use Rattle.obu.specs.Writer as obu
-use Rattle.parts.specs.declared.answer.Answer as P
 use Rattle.parts.specs.Written as part
 use Rattle.quantization.specs.declared.record.QuantizationParams.{QuantizationParams}
 use Rattle.quantization.specs.declared.record.QuantizationContext.{QuantizationContext}
@@ -57,7 +56,7 @@ obu-crosses : {w : Walk} (v : Walk) {xs ys l : List ℕ} {m : ℕ} {r : O.Answer
 unfolding obu.written
 obu-crosses v e (obu.writes a b) k h = rw (← e) (rw (h .0, h .1, k, a, b))
 
-part-crosses : {w : Walk} (v : Walk) {place : ℕ} {xs ys l : List ℕ} {m : ℕ} {r : P.Answer} {n : Numbered} → run w ≡ run v → part.Writes w place xs r ys → n ≡ part.answered r → (m ≡ n .number) × (l ≡ answer-of n) → lent m l ys ≡ wrote-part v place xs
+part-crosses : {w : Walk} (v : Walk) {place : ℕ} {xs ys l : List ℕ} {m : ℕ} {r : O.Answer} {n : Numbered} → run w ≡ run v → part.Writes w place xs r ys → n ≡ answerNumbers r → (m ≡ n .number) × (l ≡ answer-of n) → lent m l ys ≡ wrote-part v place xs
 unfolding part.written
 part-crosses v e (part.writes a b) k h = rw (← e) (rw (h .0, h .1, k, a, b))
 
@@ -70,7 +69,7 @@ module _ {out end l : List ℕ} {m : ℕ} {n : Numbered} (tells : (m ≡ n .numb
     unfolding header-of at of nowhere _▸_
     delimiter-crosses xs e w = obu-crosses _ (ap (λ (h : ObuHeader). run (temporal-delimiter h)) e) w is tells
 
-  module _ {r : P.Answer} (is : n ≡ part.answered r) {place : ℕ} (xs : List ℤ) where
+  module _ {r : O.Answer} (is : n ≡ answerNumbers r) {place : ℕ} (xs : List ℤ) where
     pub quantization-crosses : {p : QuantizationParams} {k : QuantizationContext} → p ≡ held-quantization (quantization-params xs) → k ≡ quantization-context xs → part.Writes (quantization.quantization-params k .enc p) place out r end
         → lent m l end ≡ wrote-part (quantization-walk xs) place out
     quantization-crosses e f w = part-crosses _ ((λ i. run (quantization.quantization-params (f i) .enc (e i))) ∙ quantization-given (quantization-params xs) (quantization-context xs)) w is tells

@@ -35,7 +35,7 @@ abbrev pub wrote-obu : Walk → List ℕ → Lent
 wrote-obu w xs = told (answerNumbers (obu.written w xs .answer)) (obu.written w xs .bytes)
 
 abbrev pub wrote-part : Walk → ℕ → List ℕ → Lent
-wrote-part w place xs = told (part.answered (part.written w place xs .answer)) (part.written w place xs .bytes)
+wrote-part w place xs = told (answerNumbers (part.written w place xs .answer)) (part.written w place xs .bytes)
 
 -- the reader, with a record's array that holds xs: number 0 and the record's numbers where it accepts; where it refuses, the array is as it was
 abbrev pub was-read : Got SequenceHeaderObu → List ℕ → Lent

@@ -17,7 +17,6 @@ use cdef::write::write_cdef_params;
 use loop_filter::write::write_loop_filter_params;
 use obu::delimiter::is_temporal_delimiter;
 use obu::delimiter::write_temporal_delimiter;
-use parts::answer::numbers;
 use quantization::write::write_quantization_params;
 use restoration::write::write_lr_params;
 use segmentation::write::write_segmentation_params;
@@ -94,7 +93,7 @@ pub extern "C" fn friscurella_write_quantization_params(
     let q = quantization_params(record);
     let k = quantization_context(record);
     let a = write_quantization_params(q, k, out, place);
-    tell(numbers(a), answer)
+    tell(answer_numbers(a), answer)
 }
 
 #[no_mangle]
@@ -109,7 +108,7 @@ pub extern "C" fn friscurella_write_segmentation_params(
     let p = segmentation_params(record);
     let k = segmentation_context(record);
     let a = write_segmentation_params(p, k, out, place);
-    tell(numbers(a), answer)
+    tell(answer_numbers(a), answer)
 }
 
 #[no_mangle]
@@ -124,7 +123,7 @@ pub extern "C" fn friscurella_write_loop_filter_params(
     let p = loop_filter_params(record);
     let k = loop_filter_context(record);
     let a = write_loop_filter_params(p, k, out, place);
-    tell(numbers(a), answer)
+    tell(answer_numbers(a), answer)
 }
 
 #[no_mangle]
@@ -139,7 +138,7 @@ pub extern "C" fn friscurella_write_cdef_params(
     let p = cdef_params(record);
     let k = cdef_context(record);
     let a = write_cdef_params(p, k, out, place);
-    tell(numbers(a), answer)
+    tell(answer_numbers(a), answer)
 }
 
 #[no_mangle]
@@ -154,7 +153,7 @@ pub extern "C" fn friscurella_write_lr_params(
     let p = lr_params(record);
     let k = lr_context(record);
     let a = write_lr_params(p, k, out, place);
-    tell(numbers(a), answer)
+    tell(answer_numbers(a), answer)
 }
 
 // Where the input is refused, the record is as it was.

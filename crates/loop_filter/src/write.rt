@@ -2,7 +2,6 @@
 use crate::record::*;
 use bits::answer::*;
 use bits::element::*;
-use parts::answer::Answer;
 use parts::inferred::*;
 use parts::pair::pair;
 use parts::place::*;

@@ -12,6 +12,9 @@ use Rattle.bits.specs.Bits.{Bits, put, from, end}
 use Rattle.bits.specs.Walk.{Walk, End, done, refused, wrote, run, ends, stepOf, bound, forward, Walked}
 use Rattle.bits.specs.Codec.{Codec, got}
 use Rattle.bits.specs.Lawful.{loose, Lawful}
+use Rattle.bits.specs.Written.{Written, keep, wholeBytes}
+use Rattle.bits.specs.declared.answer.Answer.{Answer}
+use Rattle.bits.specs.declared.answer.Answer.the-variants.{Done}
 use Rattle.bits.specs.declared.answer.Cursor.{Cursor}
 use Rattle.bits.specs.declared.answer.Refusal.{Refusal}
 use Rattle.bits.specs.declared.answer.Refusal.the-variants.{Short, Long}
@@ -20,10 +23,8 @@ use Rattle.bits.proofs.Walking.{answer, bytes, kept, bounded}
 use Rattle.bits.proofs.Storing.{put-beyond, length-put}
 use Rattle.bits.proofs.Pieces.{take-put, drop-put, put-out}
 use Rattle.bits.proofs.Places.{end-is, put-bits, put-front}
-use Rattle.parts.specs.declared.answer.Answer.{Answer}
-use Rattle.parts.specs.declared.answer.Answer.the-variants.{Done, Refused}
 use Rattle.parts.specs.Settled.{lent, afterNear, settled, Settles, settles}
-use Rattle.parts.specs.Written.{Written, keep, bytesTo, afterWalk, written, Writes, writes}
+use Rattle.parts.specs.Written.{afterWalk, written, Writes, writes}
 
 -- Two answers that the contract allows are equal, and so are two contents of the slice.
 pub only : {w : Walk} {place : ℕ} {xs ys zs : List ℕ} {r s : Answer} → Writes w place xs r ys → Writes w place xs s zs → (r ≡ s) × (ys ≡ zs)
@@ -39,7 +40,7 @@ module _ (w : Walk) (place : ℕ) (xs : List ℕ) where
   unfolding written
   walk-refused h e = rw (le-ltb 65536 (length xs) h, e)
 
-  pub too-short : length xs ≤ 65536 → run w .end ≡ done → length xs * 8 < place + length (run w .bits) → written w place xs ≡ keep (Short (bytesTo (place + length (run w .bits)))) xs
+  pub too-short : length xs ≤ 65536 → run w .end ≡ done → length xs * 8 < place + length (run w .bits) → written w place xs ≡ keep (Short (wholeBytes (place + length (run w .bits)))) xs
   unfolding written
   too-short h e l = rw (le-ltb 65536 (length xs) h, e, lt-ltb (length xs * 8) (place + length (run w .bits)) l)
 
@@ -53,8 +54,8 @@ stored true k bs place xs h = let z : _≡_ {A = ℕ} 0 1 = cc in absurd (omega 
 stored false (refused r) bs place xs h = let z : _≡_ {A = ℕ} 0 1 = cc in absurd (omega arith)
 stored false done bs place xs {n} h = go (ltb (length xs * 8) (place + length bs)) h
   where
-    go : (t : Bool) → Done n ≡ cond t (keep (Short (bytesTo (place + length bs))) xs) (record { answer = Done (place + length bs); bytes = put xs place bs }) .answer
-        → put xs place bs ≡ cond t (keep (Short (bytesTo (place + length bs))) xs) (record { answer = Done (place + length bs); bytes = put xs place bs }) .bytes
+    go : (t : Bool) → Done n ≡ cond t (keep (Short (wholeBytes (place + length bs))) xs) (record { answer = Done (place + length bs); bytes = put xs place bs }) .answer
+        → put xs place bs ≡ cond t (keep (Short (wholeBytes (place + length bs))) xs) (record { answer = Done (place + length bs); bytes = put xs place bs }) .bytes
     go true h = let z : _≡_ {A = ℕ} 0 1 = cc in absurd (omega arith)
     go false h = refl
 
@@ -71,7 +72,7 @@ fitted true k bs place xs h = let z : _≡_ {A = ℕ} 0 1 = cc in absurd (omega 
 fitted false (refused r) bs place xs h = let z : _≡_ {A = ℕ} 0 1 = cc in absurd (omega arith)
 fitted false done bs place xs {n} h = go (ltb (length xs * 8) (place + length bs)) refl h
   where
-    go : (t : Bool) → ltb (length xs * 8) (place + length bs) ≡ t → Done n ≡ cond t (keep (Short (bytesTo (place + length bs))) xs) (record { answer = Done (place + length bs); bytes = put xs place bs }) .answer
+    go : (t : Bool) → ltb (length xs * 8) (place + length bs) ≡ t → Done n ≡ cond t (keep (Short (wholeBytes (place + length bs))) xs) (record { answer = Done (place + length bs); bytes = put xs place bs }) .answer
         → (_≡_ {A = Bool} false false) × (_≡_ {A = End} done done) × (n ≡ place + length bs) × (place + length bs ≤ length xs * 8)
     go true e h = let z : _≡_ {A = ℕ} 0 1 = cc in absurd (omega arith)
     go false e h = (refl, refl, (cc), ltb-false (length xs * 8) (place + length bs) e)
@@ -105,12 +106,12 @@ pub record Few (n : ℕ) (w : Walk) : Type 0 where
 
 -- the bytes that the walk reached, back in the slice
 back : (xs ns : List ℕ) (place : ℕ) (bs : Bits) → length xs ≤ 65536 → place + length bs ≤ length xs * 8 → place % 8 + length bs ≤ length ns * 8
-    → take (place / 8) xs ++ (take (bytesTo (place % 8 + length bs)) (put (lent xs place ns) (place % 8) bs) ++ drop (bytesTo (place % 8 + length bs)) (drop (place / 8) xs)) ≡ put xs place bs
+    → take (place / 8) xs ++ (take (wholeBytes (place % 8 + length bs)) (put (lent xs place ns) (place % 8) bs) ++ drop (wholeBytes (place % 8 + length bs)) (drop (place / 8) xs)) ≡ put xs place bs
 unfolding lent
 back xs ns place bs h l m =
     let i = place / 8 in
     let r = place % 8 in
-    let k = bytesTo (r + length bs) in
+    let k = wholeBytes (r + length bs) in
     let ds = drop i xs in
     let ms = take (length ns) ds ++ drop (length xs - i) ns in
     let p : place ≡ i * 8 + r = omega arith in
@@ -143,7 +144,7 @@ agree done bs place xs ns m l = rw (le-ltb 65536 (length near) (omega (arith, n)
     e : place / 8 * 8 + (place % 8 + length bs) ≡ place + length bs
     e = omega arith
 
-    c : place / 8 + bytesTo (place % 8 + length bs) ≡ bytesTo (place + length bs)
+    c : place / 8 + wholeBytes (place % 8 + length bs) ≡ wholeBytes (place + length bs)
     c = omega arith
 
     near : List ℕ
@@ -153,11 +154,11 @@ agree done bs place xs ns m l = rw (le-ltb 65536 (length near) (omega (arith, n)
     n = length-put (lent xs place ns) (place % 8) bs ∙ lent-length xs place ns
 
     stands : List ℕ
-    stands = take (place / 8) xs ++ (take (bytesTo (place % 8 + length bs)) (put (lent xs place ns) (place % 8) bs) ++ drop (bytesTo (place % 8 + length bs)) (drop (place / 8) xs))
+    stands = take (place / 8) xs ++ (take (wholeBytes (place % 8 + length bs)) (put (lent xs place ns) (place % 8) bs) ++ drop (wholeBytes (place % 8 + length bs)) (drop (place / 8) xs))
 
     go : (t u : Bool) → ltb 65536 (length xs) ≡ t → ltb (length xs * 8) (place + length bs) ≡ u
-        → cond t (keep Long xs) (cond u (keep (Short (bytesTo (place + length bs))) xs) (record { answer = Done (place + length bs); bytes = stands }))
-        ≡ cond t (keep Long xs) (cond u (keep (Short (bytesTo (place + length bs))) xs) (record { answer = Done (place + length bs); bytes = put xs place bs }))
+        → cond t (keep Long xs) (cond u (keep (Short (wholeBytes (place + length bs))) xs) (record { answer = Done (place + length bs); bytes = stands }))
+        ≡ cond t (keep Long xs) (cond u (keep (Short (wholeBytes (place + length bs))) xs) (record { answer = Done (place + length bs); bytes = put xs place bs }))
     go true u h l = refl
     go false true h l = refl
     go false false h l =

@@ -5,12 +5,12 @@ use mathlib.Core.Bool.{cond}
 use Prim.Native.Nat.{ℕ, _+_, _-_, _*_, _/_}
 use lib.Dec.{ltb}
 use lib.ListN.{length, take, drop}
+use Rattle.bits.specs.Written.{Written, keep, wholeBytes}
+use Rattle.bits.specs.declared.answer.Answer.{Answer}
+use Rattle.bits.specs.declared.answer.Answer.the-variants.{Done}
 use Rattle.bits.specs.declared.answer.Refusal.the-variants.{Short, Long}
 use Rattle.bits.specs.declared.answer.Step.{Step}
 use Rattle.bits.specs.declared.answer.Step.the-variants as S
-use Rattle.parts.specs.declared.answer.Answer.{Answer}
-use Rattle.parts.specs.declared.answer.Answer.the-variants.{Done, Refused}
-use Rattle.parts.specs.Written.{Written, keep, bytesTo}
 
 -- A part is walked over an array, which is lent the bytes of the slice from that of the place on, as many as both have, and keeps its own behind them.
 unfoldable pub lent : List ℕ → ℕ → List ℕ → List ℕ
@@ -20,8 +20,8 @@ lent xs place ns = take (length ns) (drop (place / 8) xs) ++ drop (length xs - p
 abbrev pub putBack : ℕ → ℕ → List ℕ → List ℕ → Written
 putBack at first ns xs =
     cond (ltb (length xs * 8) (first * 8 + at))
-    (keep (Short (first + bytesTo at)) xs)
-    (record { answer = Done (first * 8 + at); bytes = take first xs ++ (take (bytesTo at) ns ++ drop (bytesTo at) (drop first xs)) })
+    (keep (Short (first + wholeBytes at)) xs)
+    (record { answer = Done (first * 8 + at); bytes = take first xs ++ (take (wholeBytes at) ns ++ drop (wholeBytes at) (drop first xs)) })
 
 -- (No part's walk passes the end of its array, and no such array is long.)
 abbrev pub afterNear : Step → ℕ → List ℕ → List ℕ → Written

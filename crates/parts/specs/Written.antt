@@ -2,41 +2,22 @@
 use mathlib.Core.Path.{_≡_}
 use mathlib.Core.List.{List}
 use mathlib.Core.Bool.{cond}
-use Prim.Native.Nat.{ℕ, _+_, _*_, _/_}
+use Prim.Native.Nat.{ℕ, _+_, _*_}
 use lib.Dec.{ltb}
 use lib.ListN.{length}
 use Rattle.bits.specs.Bits.{Bits, put}
 use Rattle.bits.specs.Walk.{Walk, End, done, refused, run}
-use Rattle.bits.specs.Answers.{numbered}
-use Rattle.bits.specs.declared.answer.Numbered.{Numbered}
-use Rattle.bits.specs.declared.answer.Refusal.{Refusal}
+use Rattle.bits.specs.Written.{Written, keep, wholeBytes}
+use Rattle.bits.specs.declared.answer.Answer.{Answer}
+use Rattle.bits.specs.declared.answer.Answer.the-variants.{Done}
 use Rattle.bits.specs.declared.answer.Refusal.the-variants.{Short, Long}
-use Rattle.parts.specs.declared.answer.Answer.{Answer}
-use Rattle.parts.specs.declared.answer.Answer.the-variants.{Done, Refused}
-
--- document 01, "Numbers returned": number 0 carries the end bit
-abbrev pub answered : Answer → Numbered
-answered (Done n) = record { number = 0; first = n; second = 0 }
-answered (Refused r) = numbered r
-
-pub record Written : Type 0 where
-  pub answer : Answer
-  pub bytes : List ℕ
-
--- a refusal leaves the slice as it is
-abbrev pub keep : Refusal → List ℕ → Written
-keep r xs = record { answer = Refused r; bytes = xs }
-
--- the bytes that have the bits before a place
-abbrev pub bytesTo : ℕ → ℕ
-bytesTo n = (n + 7) / 8
 
 -- after a walk from a place on: its refusal; a slice that is too short; or exactly its bits stored, and the place behind them
 abbrev pub afterWalk : End → Bits → ℕ → List ℕ → Written
 afterWalk (refused r) bs place xs = keep r xs
 afterWalk done bs place xs =
     cond (ltb (length xs * 8) (place + length bs))
-    (keep (Short (bytesTo (place + length bs))) xs)
+    (keep (Short (wholeBytes (place + length bs))) xs)
     (record { answer = Done (place + length bs); bytes = put xs place bs })
 
 -- a slice over 65,536 bytes is refused before the walk

@@ -1,10 +1,9 @@
-// Tests of several flags; flags and deltas that are not coded.
+// Tests of several flags, and deltas that are not coded.
 use bits::answer::*;
 use writer::demand;
 ghost use mathlib.Core.Path.{_≡_};
 ghost use mathlib.Core.Bool.{_&&_, _||_};
 ghost use Rattle.bits.specs.Walk.{Walked};
-ghost use Rattle.bits.specs.Codec.{sameFlag, inferredFlag};
 ghost use Rattle.parts.specs.Codes.{inferredSigned};
 
 pub fn either(a: bool, b: bool) -> bool
@@ -29,19 +28,6 @@ pub fn all(a: bool, b: bool, c: bool) -> bool
         return if b { c } else { false };
     }
     false
-}
-
-pub fn same_flag(a: bool, b: bool) -> bool
-    ensures { λ r. ⌜ r ≡ sameFlag a b ⌝ }
-{
-    if b { a } else { !a }
-}
-
-// A flag that is not coded has to be x.
-pub fn inferred_flag(out: &mut [u8], c: Cursor, a: bool, x: bool, element: u8) -> Step
-    ensures { λ s. ⌜ Walked (inferredFlag element 0 x .enc a) c (now (out .entry)) s (now (out .exit)) ⌝ }
-{
-    demand(out, c, same_flag(a, x), element, 0)
 }
 
 // A delta that is not coded has to be x.

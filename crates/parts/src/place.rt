@@ -1,5 +1,4 @@
 // The room for a part at a place. A part is walked once, over an array that has the bytes around the place; the array's bytes go back where the whole part is good.
-use crate::answer::Answer;
 use bits::answer::*;
 ghost use mathlib.Core.Path.{_≡_};
 ghost use Prim.Native.Nat.{_%_};

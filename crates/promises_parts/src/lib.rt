@@ -1,8 +1,8 @@
 // The writers of the frame parts once more: each function has the contract of the call of its name, and does nothing but call it. The wrong programs in
 // must-fail/ are other bodies: what a contract rules out is tried here, where a try takes seconds.
+use bits::answer::Answer;
 use cdef::record::*;
 use loop_filter::record::*;
-use parts::answer::Answer;
 use quantization::record::*;
 use restoration::record::*;
 use segmentation::record::*;

@@ -3,7 +3,6 @@ use crate::packed::write_delta_q;
 use crate::record::*;
 use bits::answer::*;
 use bits::element::*;
-use parts::answer::Answer;
 use parts::inferred::inferred_delta;
 use parts::pair::pair;
 use parts::place::*;

@@ -3,8 +3,6 @@ use crate::packed::kinds;
 use crate::record::*;
 use bits::answer::*;
 use bits::element::*;
-use parts::answer::Answer;
-use parts::inferred::inferred_flag;
 use parts::inferred::*;
 use parts::place::*;
 use writer::*;
@@ -84,11 +82,11 @@ fn uses(
 ) -> Step
     ensures { λ s. ⌜ Walked (uses context restored chroma .enc (uses-out p)) c (now (out .entry)) s (now (out .exit)) ⌝ }
 {
-    let s = inferred_flag(out, c, p.uses_lr, restored, USES_LR);
+    let s = inferred_flag(out, c, p.uses_lr, restored, USES_LR, 0);
     let Step::Next(c) = s else {
         return s;
     };
-    let s = inferred_flag(out, c, p.uses_chroma_lr, chroma, USES_CHROMA_LR);
+    let s = inferred_flag(out, c, p.uses_chroma_lr, chroma, USES_CHROMA_LR, 0);
     let Step::Next(c) = s else {
         return s;
     };

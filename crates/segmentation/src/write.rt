@@ -3,8 +3,6 @@ use crate::packed::feature;
 use crate::record::*;
 use bits::answer::*;
 use bits::element::*;
-use parts::answer::Answer;
-use parts::inferred::inferred_flag;
 use parts::place::*;
 use writer::*;
 ghost use lib.IntN.{pos};
@@ -36,7 +34,7 @@ fn no_flags(out: &mut [u8], c: Cursor, p: SegmentationParams) -> Step
     let mut c = c;
     let mut i: usize = 0;
     while i < 64 {
-        let s = inferred_flag(out, c, p.feature_enabled[i], false, FEATURE_ENABLED);
+        let s = inferred_flag(out, c, p.feature_enabled[i], false, FEATURE_ENABLED, 0);
         let Step::Next(next) = s else {
             return s;
         };
@@ -113,6 +111,7 @@ fn inferred_updates(out: &mut [u8], c: Cursor, p: SegmentationParams) -> Step
         p.segmentation_update_map,
         true,
         SEGMENTATION_UPDATE_MAP,
+        0,
     );
     let Step::Next(c) = s else {
         return s;
@@ -123,6 +122,7 @@ fn inferred_updates(out: &mut [u8], c: Cursor, p: SegmentationParams) -> Step
         p.segmentation_temporal_update,
         false,
         SEGMENTATION_TEMPORAL_UPDATE,
+        0,
     );
     let Step::Next(c) = s else {
         return s;
@@ -133,6 +133,7 @@ fn inferred_updates(out: &mut [u8], c: Cursor, p: SegmentationParams) -> Step
         p.segmentation_update_data,
         true,
         SEGMENTATION_UPDATE_DATA,
+        0,
     )
 }
 

@@ -7,14 +7,14 @@ use lib.Seq.{take-length, drop-length, length-take-le}
 use borrow.Author.Needs.{needs}
 use borrow.Author.Tests.{lt-ltb, le-ltb}
 use borrow.Rule.Slice.PartMut.{putMid}
+use Rattle.bits.specs.Written.{wholeBytes}
+use Rattle.bits.specs.declared.answer.Answer.the-variants.{Done, Refused}
 use Rattle.bits.specs.declared.answer.Cursor.{Cursor}
 use Rattle.bits.specs.declared.answer.Refusal.{Refusal}
 use Rattle.bits.specs.declared.answer.Refusal.the-variants.{Short, Long}
 use Rattle.bits.specs.declared.answer.Step.{Step}
 use Rattle.bits.specs.declared.answer.Step.the-variants as S
-use Rattle.parts.specs.declared.answer.Answer.the-variants.{Done, Refused}
 use Rattle.parts.specs.Settled.{settled, Settles, settles}
-use Rattle.parts.specs.Written.{bytesTo}
 use Rattle.parts.proofs.place.settle.Statement.{statement}
 use Rattle.parts.proofs.place.settle.Tie as tie
 
@@ -64,13 +64,13 @@ module _ (s : Step) (place : ℕ) (ns xs : List ℕ) where
             settles (rw (le-ltb 65536 (length xs) h, e, le-ltb 65536 (length ns) l, f, g)) (rw (le-ltb 65536 (length xs) h, e, le-ltb 65536 (length ns) l, f, g))
 
         done : {zs : List ℕ} → place / 8 * 8 + c .at ≤ length xs * 8
-            → zs ≡ take (length (take (bytesTo (c .at)) ns)) (take (bytesTo (c .at)) ns) ++ drop (length (take (bytesTo (c .at)) ns)) (take (length xs - place / 8) (drop (place / 8) xs))
+            → zs ≡ take (length (take (wholeBytes (c .at)) ns)) (take (wholeBytes (c .at)) ns) ++ drop (length (take (wholeBytes (c .at)) ns)) (take (length xs - place / 8) (drop (place / 8) xs))
             → Settles s place ns xs (Done (place / 8 * 8 + c .at)) (putMid (place / 8) (length xs - place / 8) xs zs)
         unfolding settled
         done r z =
             let f = le-ltb (length ns * 8) (c .at) k in
             let g = le-ltb (length xs * 8) (place / 8 * 8 + c .at) r in
-            settles (rw (le-ltb 65536 (length xs) h, e, le-ltb 65536 (length ns) l, f, g)) (rw (le-ltb 65536 (length xs) h, e, le-ltb 65536 (length ns) l, f, g) (copied (place / 8) (bytesTo (c .at)) ns xs (omega arith) z))
+            settles (rw (le-ltb 65536 (length xs) h, e, le-ltb 65536 (length ns) l, f, g)) (rw (le-ltb 65536 (length xs) h, e, le-ltb 65536 (length ns) l, f, g) (copied (place / 8) (wholeBytes (c .at)) ns xs (omega arith) z))
 
 pub settle-spec : {M : Type 1} → statement M
 settle-spec =
