@@ -2,9 +2,9 @@
 use mathlib.Core.Path.{_≡_, refl, sym, ap, _∙_}
 use mathlib.Core.List.{List, _++_}
 use mathlib.Core.Bool.{Bool, true, false, cond}
-use Prim.Native.Nat.{ℕ, _+_, _-_, _*_, _/_, _%_, _≤_, _<_}
+use Prim.Native.Nat.{ℕ, _+_, _-_, _*_, _/_, _%_, _≤_}
 use native.Mathlib.Omega.{arith}
-use borrow.Author.Tests.{lt-ltb, le-ltb, ltb-false}
+use borrow.Author.Tests.{le-ltb, ltb-false}
 use lib.Dec.{ltb}
 use lib.ListN.{length, take, drop, replicate, length-replicate, length-append, length-take, length-drop, take-append-drop}
 use lib.Seq.{take-append-le, take-take}
@@ -16,7 +16,6 @@ use Rattle.bits.specs.Written.{Written, keep, wholeBytes}
 use Rattle.bits.specs.declared.answer.Answer.{Answer}
 use Rattle.bits.specs.declared.answer.Answer.the-variants.{Done}
 use Rattle.bits.specs.declared.answer.Cursor.{Cursor}
-use Rattle.bits.specs.declared.answer.Refusal.{Refusal}
 use Rattle.bits.specs.declared.answer.Refusal.the-variants.{Short, Long}
 use Rattle.bits.specs.declared.answer.Step.{Step}
 use Rattle.bits.proofs.Walking.{answer, bytes, kept, bounded}
@@ -29,25 +28,6 @@ use Rattle.parts.specs.Written.{afterWalk, written, Writes, writes}
 -- Two answers that the contract allows are equal, and so are two contents of the slice.
 pub only : {w : Walk} {place : ℕ} {xs ys zs : List ℕ} {r s : Answer} → Writes w place xs r ys → Writes w place xs s zs → (r ≡ s) × (ys ≡ zs)
 only (writes a b) (writes c d) = (a ∙ sym c, b ∙ sym d)
-
--- What the contract says, case by case.
-module _ (w : Walk) (place : ℕ) (xs : List ℕ) where
-  pub too-long : 65536 < length xs → written w place xs ≡ keep Long xs
-  unfolding written
-  too-long h = rw (lt-ltb 65536 (length xs) h)
-
-  pub walk-refused : {r : Refusal} → length xs ≤ 65536 → run w .end ≡ refused r → written w place xs ≡ keep r xs
-  unfolding written
-  walk-refused h e = rw (le-ltb 65536 (length xs) h, e)
-
-  pub too-short : length xs ≤ 65536 → run w .end ≡ done → length xs * 8 < place + length (run w .bits) → written w place xs ≡ keep (Short (wholeBytes (place + length (run w .bits)))) xs
-  unfolding written
-  too-short h e l = rw (le-ltb 65536 (length xs) h, e, lt-ltb (length xs * 8) (place + length (run w .bits)) l)
-
-  pub written-whole : length xs ≤ 65536 → run w .end ≡ done → place + length (run w .bits) ≤ length xs * 8
-      → written w place xs ≡ record { answer = Done (place + length (run w .bits)); bytes = put xs place (run w .bits) }
-  unfolding written
-  written-whole h e l = rw (le-ltb 65536 (length xs) h, e, le-ltb (length xs * 8) (place + length (run w .bits)) l)
 
 stored : (t : Bool) (k : End) (bs : Bits) (place : ℕ) (xs : List ℕ) {n : ℕ} → Done n ≡ cond t (keep Long xs) (afterWalk k bs place xs) .answer → put xs place bs ≡ cond t (keep Long xs) (afterWalk k bs place xs) .bytes
 stored true k bs place xs h = let z : _≡_ {A = ℕ} 0 1 = cc in absurd (omega arith)

@@ -8,5 +8,5 @@ secondary-spec =
     tie.close
     (tie.spec
     (λ c. search (secondary-three, secondary-four, secondary-other) depth 14)
-    (λ c κs. search needs) (λ c. search needs) (λ c. search (secondary-three, secondary-four, secondary-other) depth 14)
-    (λ c κs. search needs) (λ c. search needs) (λ c. search (secondary-three, secondary-four, secondary-other) depth 14))
+    (λ c κs. search needs) (λ c. search needs) (λ c. search (secondary-four, secondary-other) depth 14)
+    (λ c κs. search needs) (λ c. search needs) (λ c. search (secondary-four, secondary-other) depth 14))

@@ -6,6 +6,6 @@ pub chroma-coded-spec : {M : Type 1} → statement M
 chroma-coded-spec =
     tie.close
     (tie.spec
-    (λ c. search (chroma-mono, chroma-zero, chroma-some) depth 14)
-    (λ c. search (chroma-mono, chroma-zero, chroma-some) depth 14)
-    (λ c. search (chroma-mono, chroma-zero, chroma-some) depth 14))
+    (λ c. search chroma-mono)
+    (λ c. search chroma-zero)
+    (λ c. search chroma-some))

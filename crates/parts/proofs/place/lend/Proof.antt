@@ -2,7 +2,7 @@ use mathlib.Core.Path.{_≡_, _∙_}
 use mathlib.Core.List.{List, _++_}
 use Prim.Native.Nat.{ℕ, _+_, _-_, _/_, _≤_, _<_}
 use native.Mathlib.Omega.{arith}
-use lib.ListN.{length, take, drop, length-take, length-drop, drop-of-length-le}
+use lib.ListN.{length, take, drop, length-drop, drop-of-length-le}
 use lib.Seq.{take-length, drop-length, take-all, take-nil, length-take-le}
 use borrow.Author.Needs.{needs}
 use Rattle.parts.specs.Settled.{lent}

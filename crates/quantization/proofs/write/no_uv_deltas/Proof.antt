@@ -1,6 +1,4 @@
 use borrow.Author.Needs.{needs}
-use Prim.Native.Nat.{_<_}
-use lib.Signed.{mag}
 use Rattle.bits.specs.Codec.{_▷_}
 use Rattle.parts.specs.Codes.{inferredSigned}
 use Rattle.quantization.specs.Quantization.{no-uv-deltas}
@@ -9,17 +7,11 @@ use Rattle.parts.proofs.Signs.{signs}
 use Rattle.quantization.proofs.write.no_uv_deltas.Statement.{statement}
 use Rattle.quantization.proofs.write.no_uv_deltas.Tie as tie
 
-dc : (c : tie.Start) → mag (c .args .q .«delta_q_u_dc») < 128
-dc c = search needs
-
-ac : (c : tie.Start) → mag (c .args .q .«delta_q_u_ac») < 128
-ac c = search needs
-
 pub no-uv-deltas-spec : {M : Type 1} → statement M
 unfolding no-uv-deltas _▷_ inferredSigned
 no-uv-deltas-spec =
     tie.close
     (tie.spec
-    (λ c κs. search needs) (λ c. search needs) (λ c. search needs) (λ c. search needs) (λ c. search (walk, signs, dc, ac) depth 14)
-    (λ c κs. search needs) (λ c. search needs) (λ c. search needs) (λ c. search needs) (λ c. search (walk, signs, dc, ac) depth 14)
-    (λ c κs. search needs) (λ c. search needs) (λ c. search (walk, signs, dc, ac) depth 14))
+    (λ c κs. search needs) (λ c. search needs) (λ c. search needs) (λ c. search needs) (λ c. search (walk, signs) depth 14)
+    (λ c κs. search needs) (λ c. search needs) (λ c. search needs) (λ c. search needs) (λ c. search (walk, signs) depth 14)
+    (λ c κs. search needs) (λ c. search needs) (λ c. search (walk, signs) depth 14))

@@ -6,5 +6,5 @@ pub chroma-used-spec : {M : Type 1} → statement M
 chroma-used-spec =
     tie.close
     (tie.spec
-    (λ c. search (used-not, used-yes) depth 14)
-    (λ c. search (used-not, used-yes) depth 14))
+    (λ c. search used-not)
+    (λ c. search used-yes))

@@ -8,4 +8,4 @@ large-shift-spec =
     tie.close
     (tie.spec
     (λ c. search (large-zero, large-other) depth 14)
-    (λ c. search needs) (λ c κs. search needs) (λ c. search needs) (λ c. search (large-zero, large-other) depth 14))
+    (λ c. search needs) (λ c κs. search needs) (λ c. search needs) (λ c. search large-other))

@@ -11,5 +11,5 @@ unfolding shifts _▷_
 shifts-spec =
     tie.close
     (tie.spec
-    (λ c κs. search needs) (λ c. search needs) (λ c. search needs) (λ c. search needs) (λ c. search (walk, uv-by) depth 14)
+    (λ c κs. search needs) (λ c. search needs) (λ c. search needs) (λ c. search needs) (λ c. search walk depth 14)
     (λ c κs. search needs) (λ c κs. search needs) (λ c. search needs) (λ c. search (walk, uv-by) depth 14))

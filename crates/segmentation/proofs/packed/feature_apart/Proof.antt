@@ -11,6 +11,6 @@ unfolding feature _▷_ choose flag absent
 feature-apart-spec =
     tie.close
     (tie.spec
-    (λ c κs. search needs) (λ c. search needs) (λ c. search needs) (λ c. search needs) (λ c. search (walk, given-16) depth 14)
+    (λ c κs. search needs) (λ c. search needs) (λ c. search needs) (λ c. search needs) (λ c. search walk depth 14)
     (λ c. search needs) (λ c κs. search needs) (λ c. search needs) (λ c. search (walk, given-16) depth 14)
-    (λ c. search needs) (λ c. search (walk, given-16) depth 14))
+    (λ c. search needs) (λ c. search walk depth 14))
