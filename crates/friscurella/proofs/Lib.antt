@@ -1,10 +1,1 @@
-pub mod Narrowing
-pub mod Alike
-pub mod Near
-pub mod GivenQuantization
-pub mod GivenSegmentation
-pub mod GivenLoopFilter
-pub mod GivenSequence
-pub mod Filling
-pub mod Records
 pub mod Crossing

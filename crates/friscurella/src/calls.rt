@@ -1,26 +1,14 @@
 // The public calls. An answer is document 01's number and its values: 0 and the count where a writer is done. Each call also returns the number.
-use crate::cdef_record::cdef_context;
-use crate::cdef_record::cdef_params;
-use crate::header::obu_header;
-use crate::loop_filter_record::loop_filter_context;
-use crate::loop_filter_record::loop_filter_params;
-use crate::quantization_record::quantization_context;
-use crate::quantization_record::quantization_params;
-use crate::restoration_record::lr_context;
-use crate::restoration_record::lr_params;
-use crate::segmentation_record::segmentation_context;
-use crate::segmentation_record::segmentation_params;
-use crate::sequence_record::sequence_header;
 use bits::answer::Numbered;
 use bits::answer::answer_numbers;
-use cdef::write::write_cdef_params;
-use loop_filter::write::write_loop_filter_params;
+use cdef_numbers::write_cdef_numbers;
+use loop_filter_numbers::write_loop_filter_numbers;
 use obu::delimiter::is_temporal_delimiter;
-use obu::delimiter::write_temporal_delimiter;
-use quantization::write::write_quantization_params;
-use restoration::write::write_lr_params;
-use segmentation::write::write_segmentation_params;
-use sequence::write::write_sequence_header;
+use quantization_numbers::write_quantization_numbers;
+use restoration_numbers::write_restoration_numbers;
+use segmentation_numbers::write_segmentation_numbers;
+use sequence_numbers::write_delimiter_numbers;
+use sequence_numbers::write_sequence_numbers;
 use sequence_reader::read::Outcome;
 use sequence_reader::read::payload_part;
 use sequence_reader::read::read_sequence_header;
@@ -30,7 +18,11 @@ ghost use Rattle.obu.specs.Demand3.{read};
 ghost use Rattle.sequence.specs.Sequence.{sequence-header};
 ghost use Rattle.sequence_reader.specs.Layouts.{header-of, record-of};
 ghost use Rattle.sequence_reader.specs.Payload.{payloadPart};
-ghost use Rattle.friscurella.specs.Parts.{quantization-walk, segmentation-walk, loop-filter-walk, cdef-walk, lr-walk};
+ghost use Rattle.quantization_numbers.specs.Numbers.{quantization-walk};
+ghost use Rattle.segmentation_numbers.specs.Numbers.{segmentation-walk};
+ghost use Rattle.loop_filter_numbers.specs.Numbers.{loop-filter-walk};
+ghost use Rattle.cdef_numbers.specs.Numbers.{cdef-walk};
+ghost use Rattle.restoration_numbers.specs.Numbers.{lr-walk};
 ghost use Rattle.friscurella.specs.Calls.{answer-of, outcome-numbers, part-numbers, lent, wrote-obu, wrote-part, was-read};
 
 // The answer, and its number.
@@ -63,8 +55,7 @@ pub extern "C" fn friscurella_write_sequence_header(
 ) -> u32
     ensures { λ r. ⌜ lent r (now (answer .exit)) (now (out .exit)) ≡ wrote-obu (sequence-header .enc (record-of (now («record» .entry)))) (now (out .entry)) ⌝ }
 {
-    let h = sequence_header(record);
-    let a = write_sequence_header(h, out);
+    let a = write_sequence_numbers(record, out);
     tell(answer_numbers(a), answer)
 }
 
@@ -76,8 +67,7 @@ pub extern "C" fn friscurella_write_temporal_delimiter(
 ) -> u32
     ensures { λ r. ⌜ lent r (now (answer .exit)) (now (out .exit)) ≡ wrote-obu (temporal-delimiter (header-of (now («record» .entry)))) (now (out .entry)) ⌝ }
 {
-    let h = obu_header(record[0], record[1], record[2], record[3], record[4]);
-    let a = write_temporal_delimiter(h, out);
+    let a = write_delimiter_numbers(record, out);
     tell(answer_numbers(a), answer)
 }
 
@@ -90,9 +80,7 @@ pub extern "C" fn friscurella_write_quantization_params(
 ) -> u32
     ensures { λ r. ⌜ lent r (now (answer .exit)) (now (out .exit)) ≡ wrote-part (quantization-walk (now («record» .entry))) place (now (out .entry)) ⌝ }
 {
-    let q = quantization_params(record);
-    let k = quantization_context(record);
-    let a = write_quantization_params(q, k, out, place);
+    let a = write_quantization_numbers(record, out, place);
     tell(answer_numbers(a), answer)
 }
 
@@ -105,9 +93,7 @@ pub extern "C" fn friscurella_write_segmentation_params(
 ) -> u32
     ensures { λ r. ⌜ lent r (now (answer .exit)) (now (out .exit)) ≡ wrote-part (segmentation-walk (now («record» .entry))) place (now (out .entry)) ⌝ }
 {
-    let p = segmentation_params(record);
-    let k = segmentation_context(record);
-    let a = write_segmentation_params(p, k, out, place);
+    let a = write_segmentation_numbers(record, out, place);
     tell(answer_numbers(a), answer)
 }
 
@@ -120,9 +106,7 @@ pub extern "C" fn friscurella_write_loop_filter_params(
 ) -> u32
     ensures { λ r. ⌜ lent r (now (answer .exit)) (now (out .exit)) ≡ wrote-part (loop-filter-walk (now («record» .entry))) place (now (out .entry)) ⌝ }
 {
-    let p = loop_filter_params(record);
-    let k = loop_filter_context(record);
-    let a = write_loop_filter_params(p, k, out, place);
+    let a = write_loop_filter_numbers(record, out, place);
     tell(answer_numbers(a), answer)
 }
 
@@ -135,9 +119,7 @@ pub extern "C" fn friscurella_write_cdef_params(
 ) -> u32
     ensures { λ r. ⌜ lent r (now (answer .exit)) (now (out .exit)) ≡ wrote-part (cdef-walk (now («record» .entry))) place (now (out .entry)) ⌝ }
 {
-    let p = cdef_params(record);
-    let k = cdef_context(record);
-    let a = write_cdef_params(p, k, out, place);
+    let a = write_cdef_numbers(record, out, place);
     tell(answer_numbers(a), answer)
 }
 
@@ -150,9 +132,7 @@ pub extern "C" fn friscurella_write_lr_params(
 ) -> u32
     ensures { λ r. ⌜ lent r (now (answer .exit)) (now (out .exit)) ≡ wrote-part (lr-walk (now («record» .entry))) place (now (out .entry)) ⌝ }
 {
-    let p = lr_params(record);
-    let k = lr_context(record);
-    let a = write_lr_params(p, k, out, place);
+    let a = write_restoration_numbers(record, out, place);
     tell(answer_numbers(a), answer)
 }
 

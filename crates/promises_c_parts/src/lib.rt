@@ -1,7 +1,11 @@
 // The calls for C on the frame parts once more: each function has the contract of the call of its name, and does nothing but call it. The wrong programs
 // in must-fail/ are other bodies: what a contract rules out is tried here, where a try takes seconds.
 ghost use mathlib.Core.Path.{_≡_};
-ghost use Rattle.friscurella.specs.Parts.{quantization-walk, segmentation-walk, loop-filter-walk, cdef-walk, lr-walk};
+ghost use Rattle.quantization_numbers.specs.Numbers.{quantization-walk};
+ghost use Rattle.segmentation_numbers.specs.Numbers.{segmentation-walk};
+ghost use Rattle.loop_filter_numbers.specs.Numbers.{loop-filter-walk};
+ghost use Rattle.cdef_numbers.specs.Numbers.{cdef-walk};
+ghost use Rattle.restoration_numbers.specs.Numbers.{lr-walk};
 ghost use Rattle.friscurella.specs.Calls.{lent, wrote-part};
 
 pub fn friscurella_write_quantization_params(

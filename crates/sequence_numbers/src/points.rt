@@ -1,0 +1,45 @@
+// The operating points: nine numbers each.
+use sequence::record::*;
+use sequence_reader::place;
+ghost use mathlib.Core.Path.{_≡_};
+ghost use Prim.Native.Nat.{_<_};
+ghost use lib.ListN.{take};
+ghost use Rattle.numbers.specs.Numbers.{at, each};
+ghost use Rattle.sequence_numbers.specs.Groups.{point-of, used};
+
+// Point i.
+fn operating_point(n: &[u32; 347], i: usize) -> OperatingPoint
+    requires { ⌜ i < 32 ⌝ }
+    ensures { λ r. ⌜ r ≡ point-of (now (n .entry)) i ⌝ }
+{
+    let at = place::OPERATING_POINTS + 9 * i;
+    OperatingPoint {
+        idc: n[at],
+        seq_level_idx: n[at + 1],
+        seq_tier: n[at + 2],
+        decoder_model_present_for_this_op: n[at + 3] != 0,
+        decoder_buffer_delay: n[at + 4],
+        encoder_buffer_delay: n[at + 5],
+        low_delay_mode_flag: n[at + 6] != 0,
+        initial_display_delay_present_for_this_op: n[at + 7] != 0,
+        initial_display_delay_minus_1: n[at + 8],
+    }
+}
+
+// How many points a header with this count uses.
+pub fn used(count: u32) -> usize
+    ensures { λ r. ⌜ r ≡ used count ⌝ }
+{
+    if count < 31 { count as usize + 1 } else { 32 }
+}
+
+// The points that are used; the others stay zeros.
+pub fn operating_points(n: &[u32; 347]) -> [OperatingPoint; 32]
+    ensures { λ r. ⌜ take (used (at (now (n .entry)) 19)) r ≡ each (used (at (now (n .entry)) 19)) (point-of (now (n .entry))) ⌝ }
+{
+    let mut points = [NO_POINT; 32];
+    for i in 0..used(n[place::OPERATING_POINTS_CNT_MINUS_1]) {
+        points[i] = operating_point(n, i);
+    }
+    points
+}
