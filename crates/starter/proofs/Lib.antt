@@ -1,0 +1,3 @@
+pub mod TopBits
+pub mod Ends
+pub mod Starting
