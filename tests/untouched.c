@@ -1,4 +1,5 @@
-/* What is lent to a call is as it was where the call refuses: records and buffers hold a pattern, and each number of a refusal is met. */
+/* What is lent to a call is as it was where the call refuses: records and buffers hold a pattern,
+   and each number of a refusal is met. The number is returned, and stands in the answer. */
 #include <stdio.h>
 #include <string.h>
 
@@ -11,33 +12,41 @@ static uint8_t buffer[ROOM];
 
 /* Whether all of some memory still holds the pattern. */
 static bool intact(const void *memory, size_t size) {
-  const uint8_t *bytes = memory;
+  const uint8_t *bytes = (const uint8_t *)memory;
   for (size_t i = 0; i < size; i++)
     if (bytes[i] != PATTERN) return false;
   return true;
 }
 
-static void judge(const char *call, const uint32_t answer[], uint32_t number, const void *memory, size_t size) {
+/* Whether a call answered `number` and left what was lent to it. */
+static void judge(const char *call, uint32_t returned, const struct friscurella_answer *answer,
+                  uint32_t number, const void *memory, size_t size) {
   bool kept = intact(memory, size);
-  if (answer[FRISCURELLA_ANSWER_NUMBER] == number && kept) return;
-  printf("%s: answered %u where %u is expected, and what was lent is %s\n", call, (unsigned)answer[FRISCURELLA_ANSWER_NUMBER], (unsigned)number,
-         kept ? "intact" : "changed");
+  if (returned == number && answer->number == number && answer->third == 0 && kept) return;
+  printf("%s: returned %u, answered %u with a third value %u, where %u is expected\n", call,
+         (unsigned)returned, (unsigned)answer->number, (unsigned)answer->third, (unsigned)number);
+  if (!kept) printf("%s: what was lent has changed\n", call);
   failures++;
 }
 
 static void reads(const uint8_t *input, size_t length, uint32_t number) {
-  uint32_t record[FRISCURELLA_SEQ_COUNT], answer[FRISCURELLA_ANSWER_COUNT];
-  memset(record, PATTERN, sizeof record);
-  friscurella_read_sequence_header(input, length, record, answer);
-  judge("read", answer, number, record, sizeof record);
+  struct friscurella_sequence_header record;
+  struct friscurella_answer answer;
+  memset(&record, PATTERN, sizeof record);
+  memset(&answer, PATTERN, sizeof answer);
+  uint32_t returned = friscurella_read_sequence_header(input, length, &record, &answer);
+  judge("read_sequence_header", returned, &answer, number, &record, sizeof record);
 }
 
-/* Bad bytes of every number that the reader refuses with, around the smallest header: 0A 04 18 00 00 11. */
+/* Bad bytes of every number that the reader refuses with, around the smallest header:
+   0A 04 18 00 00 11. */
 static void reader(void) {
   static const uint8_t longer[ROOM] = {0x0A};
   static const uint8_t type[] = {0x12, 0x00}, profile[] = {0x0A, 0x04, 0x78, 0x00, 0x00, 0x11};
-  static const uint8_t cut[] = {0x0A, 0x02, 0x18, 0x00}, forbidden[] = {0x8A, 0x04, 0x18, 0x00, 0x00, 0x11};
-  static const uint8_t size[] = {0x0A, 0x05, 0x18, 0x00, 0x00, 0x11}, tail[] = {0x0A, 0x04, 0x18, 0x00, 0x00, 0x10};
+  static const uint8_t cut[] = {0x0A, 0x02, 0x18, 0x00};
+  static const uint8_t forbidden[] = {0x8A, 0x04, 0x18, 0x00, 0x00, 0x11};
+  static const uint8_t size[] = {0x0A, 0x05, 0x18, 0x00, 0x00, 0x11};
+  static const uint8_t tail[] = {0x0A, 0x04, 0x18, 0x00, 0x00, 0x10};
   reads(type, sizeof type, FRISCURELLA_INCONSISTENT);
   reads(profile, sizeof profile, FRISCURELLA_INCONSISTENT);
   reads(cut, 0, FRISCURELLA_ENDS);
@@ -48,78 +57,137 @@ static void reader(void) {
   reads(longer, sizeof longer, FRISCURELLA_LONG);
 }
 
-/* A call of each writer, on a record that holds `value` at one place and else zeros. */
-static void sequence(unsigned place, uint32_t value, size_t length, uint32_t number) {
-  uint32_t record[FRISCURELLA_SEQ_COUNT] = {0}, answer[FRISCURELLA_ANSWER_COUNT];
-  record[FRISCURELLA_SEQ_OBU_TYPE] = 1;
-  record[FRISCURELLA_SEQ_REDUCED_STILL_PICTURE_HEADER] = 1;
-  record[FRISCURELLA_SEQ_SEQ_FORCE_SCREEN_CONTENT_TOOLS] = record[FRISCURELLA_SEQ_SEQ_FORCE_INTEGER_MV] = 2;
-  record[FRISCURELLA_SEQ_MONO_CHROME] = record[FRISCURELLA_SEQ_SUBSAMPLING_X] = record[FRISCURELLA_SEQ_SUBSAMPLING_Y] = 1;
-  record[FRISCURELLA_SEQ_COLOR_PRIMARIES] = record[FRISCURELLA_SEQ_TRANSFER_CHARACTERISTICS] = 2;
-  record[FRISCURELLA_SEQ_MATRIX_COEFFICIENTS] = 2;
-  record[place] = value;
-  friscurella_write_sequence_header(record, buffer, length, answer);
-  judge("write_sequence_header", answer, number, buffer, sizeof buffer);
+/* A call of each writer into the first `length` bytes of the buffer, which has to refuse. */
+#define OBU(name, type) \
+  static void name(const struct friscurella_##type *record, size_t length, uint32_t number) { \
+    struct friscurella_answer answer; \
+    memset(&answer, PATTERN, sizeof answer); \
+    uint32_t returned = friscurella_write_##name(record, buffer, length, &answer); \
+    judge(#name, returned, &answer, number, buffer, sizeof buffer); \
+  }
+#define PART(name) \
+  static void name(const struct friscurella_##name *record, size_t length, uint32_t number) { \
+    struct friscurella_answer answer; \
+    memset(&answer, PATTERN, sizeof answer); \
+    uint32_t returned = friscurella_write_##name(record, 3, buffer, length, &answer); \
+    judge(#name, returned, &answer, number, buffer, sizeof buffer); \
+  }
+OBU(sequence_header, sequence_header)
+OBU(temporal_delimiter, obu_header)
+PART(quantization_params)
+PART(segmentation_params)
+PART(loop_filter_params)
+PART(cdef_params)
+PART(lr_params)
+
+/* For each writer numbers 1, 2, 3 and 8: a bad element, an unfit one, no room, a slice too long. */
+static void sequences(void) {
+  struct friscurella_sequence_header good, bad;
+  friscurella_video(1920, 1080, 8, &good);
+  bad = good;
+  bad.obu_header.obu_type = FRISCURELLA_OBU_TEMPORAL_DELIMITER;
+  sequence_header(&bad, 64, FRISCURELLA_INCONSISTENT);
+  bad = good;
+  bad.operating_points[0].seq_level_idx = 32;
+  sequence_header(&bad, 64, FRISCURELLA_UNFIT);
+  sequence_header(&good, 4, FRISCURELLA_SHORT);
+  sequence_header(&good, ROOM, FRISCURELLA_LONG);
 }
 
-static void delimiter(unsigned place, uint32_t value, size_t length, uint32_t number) {
-  uint32_t record[FRISCURELLA_TD_COUNT] = {0}, answer[FRISCURELLA_ANSWER_COUNT];
-  record[FRISCURELLA_TD_OBU_TYPE] = 2;
-  record[FRISCURELLA_TD_EXTENSION_FLAG] = 1;
-  record[place] = value;
-  friscurella_write_temporal_delimiter(record, buffer, length, answer);
-  judge("write_temporal_delimiter", answer, number, buffer, sizeof buffer);
+static void delimiters(void) {
+  struct friscurella_obu_header good, bad;
+  memset(&good, 0, sizeof good);
+  good.obu_type = FRISCURELLA_OBU_TEMPORAL_DELIMITER;
+  good.extension_flag = 1;
+  bad = good;
+  bad.obu_type = FRISCURELLA_OBU_SEQUENCE_HEADER;
+  temporal_delimiter(&bad, 64, FRISCURELLA_INCONSISTENT);
+  bad = good;
+  bad.temporal_id = 8;
+  temporal_delimiter(&bad, 64, FRISCURELLA_UNFIT);
+  temporal_delimiter(&good, 1, FRISCURELLA_SHORT);
+  temporal_delimiter(&good, ROOM, FRISCURELLA_LONG);
 }
 
-typedef void part_writer(const int32_t *record, uint32_t place, uint8_t *out, size_t length, uint32_t *answer);
-
-static void part(const char *call, part_writer *write, const int32_t *zeros, unsigned count, unsigned place, int32_t value, size_t length,
-                 uint32_t number) {
-  int32_t record[FRISCURELLA_SEG_COUNT];
-  uint32_t answer[FRISCURELLA_ANSWER_COUNT];
-  memcpy(record, zeros, count * sizeof *record);
-  record[place] = value;
-  write(record, 3, buffer, length, answer);
-  judge(call, answer, number, buffer, sizeof buffer);
+static void quantization(void) {
+  struct friscurella_quantization_params good, bad;
+  memset(&good, 0, sizeof good);
+  good.context.planes = 1;
+  bad = good;
+  bad.delta_q_u_dc = 1;
+  quantization_params(&bad, 64, FRISCURELLA_INCONSISTENT);
+  bad = good;
+  bad.delta_q_y_dc = 64;
+  quantization_params(&bad, 64, FRISCURELLA_UNFIT);
+  quantization_params(&good, 0, FRISCURELLA_SHORT);
+  quantization_params(&good, ROOM, FRISCURELLA_LONG);
 }
 
-/* Numbers 1, 2, 3 and 8 of a part: a bad element, an unfit one, no room, a slice too long. */
-static void parts(const char *call, part_writer *write, const int32_t *zeros, unsigned count, unsigned bad, int32_t forbidden, unsigned unfit,
-                  int32_t large) {
-  part(call, write, zeros, count, bad, forbidden, 64, FRISCURELLA_INCONSISTENT);
-  if (large != 0) part(call, write, zeros, count, unfit, large, 64, FRISCURELLA_UNFIT);
-  part(call, write, zeros, count, 0, zeros[0], 0, FRISCURELLA_SHORT);
-  part(call, write, zeros, count, 0, zeros[0], ROOM, FRISCURELLA_LONG);
+static void segmentation(void) { /* segment values are clipped: none is unfit */
+  struct friscurella_segmentation_params good, bad;
+  memset(&good, 0, sizeof good);
+  good.context.primary_ref_frame = FRISCURELLA_PRIMARY_REF_NONE;
+  good.segmentation_enabled = good.segmentation_update_map = good.segmentation_update_data = 1;
+  bad = good;
+  bad.segmentation_update_map = 0;
+  segmentation_params(&bad, 64, FRISCURELLA_INCONSISTENT);
+  segmentation_params(&good, 0, FRISCURELLA_SHORT);
+  segmentation_params(&good, ROOM, FRISCURELLA_LONG);
 }
 
-static void writers(void) {
-  static const int32_t quantization[FRISCURELLA_QUANT_COUNT] = {1}, filter[FRISCURELLA_LF_COUNT] = {0};
-  static const int32_t cdef[FRISCURELLA_CDEF_COUNT] = {0, 0, 1, 1, 0, 3}, restoration[FRISCURELLA_LR_COUNT] = {0, 0, 1, 1};
-  static const int32_t segmentation[FRISCURELLA_SEG_COUNT] = {7, 1, 1, 0, 1};
-  sequence(FRISCURELLA_SEQ_OBU_TYPE, 2, 64, FRISCURELLA_INCONSISTENT);
-  sequence(FRISCURELLA_SEQ_POINT(0, SEQ_LEVEL_IDX), 32, 64, FRISCURELLA_UNFIT);
-  sequence(FRISCURELLA_SEQ_OBU_TYPE, 1, 4, FRISCURELLA_SHORT);
-  sequence(FRISCURELLA_SEQ_OBU_TYPE, 1, ROOM, FRISCURELLA_LONG);
-  delimiter(FRISCURELLA_TD_OBU_TYPE, 1, 64, FRISCURELLA_INCONSISTENT);
-  delimiter(FRISCURELLA_TD_TEMPORAL_ID, 8, 64, FRISCURELLA_UNFIT);
-  delimiter(FRISCURELLA_TD_OBU_TYPE, 2, 1, FRISCURELLA_SHORT);
-  delimiter(FRISCURELLA_TD_OBU_TYPE, 2, ROOM, FRISCURELLA_LONG);
-  parts("write_quantization_params", friscurella_write_quantization_params, quantization, FRISCURELLA_QUANT_COUNT,
-        FRISCURELLA_QUANT_DELTA_Q_U_DC, 1, FRISCURELLA_QUANT_DELTA_Q_Y_DC, 64);
-  parts("write_segmentation_params", friscurella_write_segmentation_params, segmentation, FRISCURELLA_SEG_COUNT,
-        FRISCURELLA_SEG_SEGMENTATION_UPDATE_MAP, 0, 0, 0); /* segment values are clipped: none is unfit */
-  parts("write_loop_filter_params", friscurella_write_loop_filter_params, filter, FRISCURELLA_LF_COUNT, FRISCURELLA_LF_CODED_LOSSLESS, 1,
-        FRISCURELLA_LF_LOOP_FILTER_SHARPNESS, 8);
-  parts("write_cdef_params", friscurella_write_cdef_params, cdef, FRISCURELLA_CDEF_COUNT, FRISCURELLA_CDEF_CDEF_Y_SEC_STRENGTH, 3,
-        FRISCURELLA_CDEF_CDEF_DAMPING, 2);
-  parts("write_lr_params", friscurella_write_lr_params, restoration, FRISCURELLA_LR_COUNT, FRISCURELLA_LR_USES_LR, 1,
-        FRISCURELLA_LR_FRAME_RESTORATION_TYPE, 4);
+static void loop_filter(void) {
+  struct friscurella_loop_filter_params good, bad;
+  memset(&good, 0, sizeof good);
+  good.context.planes = 1;
+  bad = good;
+  bad.context.coded_lossless = 1; /* the deltas are not the inferred ones */
+  loop_filter_params(&bad, 64, FRISCURELLA_INCONSISTENT);
+  bad = good;
+  bad.loop_filter_sharpness = 8;
+  loop_filter_params(&bad, 64, FRISCURELLA_UNFIT);
+  loop_filter_params(&good, 0, FRISCURELLA_SHORT);
+  loop_filter_params(&good, ROOM, FRISCURELLA_LONG);
+}
+
+static void cdef(void) {
+  struct friscurella_cdef_params good, bad;
+  memset(&good, 0, sizeof good);
+  good.context.enable_cdef = good.context.planes = 1;
+  good.cdef_damping = 3;
+  bad = good;
+  bad.cdef_y_sec_strength[0] = 3;
+  cdef_params(&bad, 64, FRISCURELLA_INCONSISTENT);
+  bad = good;
+  bad.cdef_damping = 2;
+  cdef_params(&bad, 64, FRISCURELLA_UNFIT);
+  cdef_params(&good, 0, FRISCURELLA_SHORT);
+  cdef_params(&good, ROOM, FRISCURELLA_LONG);
+}
+
+static void restoration(void) {
+  struct friscurella_lr_params good, bad;
+  memset(&good, 0, sizeof good);
+  good.context.enable_restoration = good.context.planes = 1;
+  bad = good;
+  bad.uses_lr = 1;
+  lr_params(&bad, 64, FRISCURELLA_INCONSISTENT);
+  bad = good;
+  bad.frame_restoration_type[0] = 4;
+  lr_params(&bad, 64, FRISCURELLA_UNFIT);
+  lr_params(&good, 0, FRISCURELLA_SHORT);
+  lr_params(&good, ROOM, FRISCURELLA_LONG);
 }
 
 int main(void) {
   memset(buffer, PATTERN, sizeof buffer);
   reader();
-  writers();
+  sequences();
+  delimiters();
+  quantization();
+  segmentation();
+  loop_filter();
+  cdef();
+  restoration();
   if (failures == 0) printf("untouched: every refusal leaves what was lent as it was\n");
   return failures != 0;
 }
