@@ -1,146 +1,119 @@
-//! The calls of `libboundary.a`, as `include/friscurella.h` declares them, and a safe function for each. All unsafe code of the crate is here.
+//! The calls of `libfriscurella.a`, as `include/friscurella.h` declares them, and a safe function
+//! for each. All unsafe code of the crate is here.
 //!
-//! What each call asks of its caller is what a reference gives: arrays of the stated length, a slice's pointer with its length, and nothing that is
-//! written overlapping anything else. The calls accept every content, keep no pointer, and do not unwind.
+//! What each call asks of its caller is what a reference gives: arrays of the stated length, a
+//! slice's pointer with its length, and nothing that is written overlapping anything else. The
+//! calls accept every content, keep no pointer, and do not unwind.
 
-#[link(name = "boundary", kind = "static")]
+/// A number and its three values. (Each call that fills an answer also returns its number.)
+pub type Answer = [u32; 4];
+
+#[link(name = "friscurella", kind = "static")]
 extern "C" {
+    fn friscurella_version() -> u32;
+    fn friscurella_explain(answer: &Answer, text: *mut u8, size: usize) -> u32;
+    fn friscurella_video(width: u32, height: u32, bit_depth: u32, record: &mut [u32; 347]);
     fn friscurella_write_sequence_header(
         record: &[u32; 347],
         out: *mut u8,
         length: usize,
-        answer: &mut [u32; 3],
-    );
+        answer: &mut Answer,
+    ) -> u32;
     fn friscurella_write_temporal_delimiter(
         record: &[u32; 5],
         out: *mut u8,
         length: usize,
-        answer: &mut [u32; 3],
-    );
+        answer: &mut Answer,
+    ) -> u32;
     fn friscurella_write_quantization_params(
         record: &[i32; 13],
         place: u32,
         out: *mut u8,
         length: usize,
-        answer: &mut [u32; 3],
-    );
+        answer: &mut Answer,
+    ) -> u32;
     fn friscurella_write_segmentation_params(
         record: &[i32; 133],
         place: u32,
         out: *mut u8,
         length: usize,
-        answer: &mut [u32; 3],
-    );
+        answer: &mut Answer,
+    ) -> u32;
     fn friscurella_write_loop_filter_params(
         record: &[i32; 20],
         place: u32,
         out: *mut u8,
         length: usize,
-        answer: &mut [u32; 3],
-    );
+        answer: &mut Answer,
+    ) -> u32;
     fn friscurella_write_cdef_params(
         record: &[i32; 38],
         place: u32,
         out: *mut u8,
         length: usize,
-        answer: &mut [u32; 3],
-    );
+        answer: &mut Answer,
+    ) -> u32;
     fn friscurella_write_lr_params(
         record: &[i32; 14],
         place: u32,
         out: *mut u8,
         length: usize,
-        answer: &mut [u32; 3],
-    );
+        answer: &mut Answer,
+    ) -> u32;
     fn friscurella_read_sequence_header(
         input: *const u8,
         length: usize,
         record: &mut [u32; 347],
-        answer: &mut [u32; 3],
-    );
+        answer: &mut Answer,
+    ) -> u32;
     fn friscurella_payload(input: *const u8, length: usize, part: &mut [u32; 2]);
     fn friscurella_is_temporal_delimiter(input: *const u8, length: usize) -> bool;
 }
 
-pub fn write_sequence_header(record: &[u32; 347], out: &mut [u8]) -> [u32; 3] {
-    let mut answer = [0; 3];
-    // SAFETY: `out` is lent for the call, with its own length; `answer` is a local.
-    unsafe { friscurella_write_sequence_header(record, out.as_mut_ptr(), out.len(), &mut answer) };
-    answer
+pub fn version() -> u32 {
+    // SAFETY: nothing is lent.
+    unsafe { friscurella_version() }
 }
 
-pub fn write_temporal_delimiter(record: &[u32; 5], out: &mut [u8]) -> [u32; 3] {
-    let mut answer = [0; 3];
-    // SAFETY: `out` is lent for the call, with its own length; `answer` is a local.
-    unsafe {
-        friscurella_write_temporal_delimiter(record, out.as_mut_ptr(), out.len(), &mut answer)
+/// Puts the sentence of an answer into `text`, with a 0 behind it, and tells the length of the
+/// whole sentence.
+pub fn explain(answer: &Answer, text: &mut [u8]) -> usize {
+    // SAFETY: `text` is lent for the call, with its own length.
+    unsafe { friscurella_explain(answer, text.as_mut_ptr(), text.len()) as usize }
+}
+
+pub fn video(width: u32, height: u32, bit_depth: u32) -> [u32; 347] {
+    let mut record = [0; 347];
+    // SAFETY: `record` is a local.
+    unsafe { friscurella_video(width, height, bit_depth, &mut record) };
+    record
+}
+
+/// A function for each writer, of an OBU or of a part at a place.
+macro_rules! writers {
+    ($($name:ident $call:ident [$number:ty; $count:literal] ($($place:ident)?);)+) => {
+        $(pub fn $name(record: &[$number; $count] $(, $place: u32)?, out: &mut [u8]) -> Answer {
+            let mut answer = [0; 4];
+            // SAFETY: `out` is lent for the call, with its own length; `answer` is a local. Any
+            // place is allowed.
+            unsafe { $call(record $(, $place)?, out.as_mut_ptr(), out.len(), &mut answer) };
+            answer
+        })+
     };
-    answer
 }
 
-pub fn write_quantization_params(record: &[i32; 13], place: u32, out: &mut [u8]) -> [u32; 3] {
-    let mut answer = [0; 3];
-    // SAFETY: `out` is lent for the call, with its own length; `answer` is a local. Any place is allowed.
-    unsafe {
-        friscurella_write_quantization_params(
-            record,
-            place,
-            out.as_mut_ptr(),
-            out.len(),
-            &mut answer,
-        )
-    };
-    answer
+writers! {
+    write_sequence_header friscurella_write_sequence_header [u32; 347] ();
+    write_temporal_delimiter friscurella_write_temporal_delimiter [u32; 5] ();
+    write_quantization_params friscurella_write_quantization_params [i32; 13] (place);
+    write_segmentation_params friscurella_write_segmentation_params [i32; 133] (place);
+    write_loop_filter_params friscurella_write_loop_filter_params [i32; 20] (place);
+    write_cdef_params friscurella_write_cdef_params [i32; 38] (place);
+    write_lr_params friscurella_write_lr_params [i32; 14] (place);
 }
 
-pub fn write_segmentation_params(record: &[i32; 133], place: u32, out: &mut [u8]) -> [u32; 3] {
-    let mut answer = [0; 3];
-    // SAFETY: `out` is lent for the call, with its own length; `answer` is a local. Any place is allowed.
-    unsafe {
-        friscurella_write_segmentation_params(
-            record,
-            place,
-            out.as_mut_ptr(),
-            out.len(),
-            &mut answer,
-        )
-    };
-    answer
-}
-
-pub fn write_loop_filter_params(record: &[i32; 20], place: u32, out: &mut [u8]) -> [u32; 3] {
-    let mut answer = [0; 3];
-    // SAFETY: `out` is lent for the call, with its own length; `answer` is a local. Any place is allowed.
-    unsafe {
-        friscurella_write_loop_filter_params(
-            record,
-            place,
-            out.as_mut_ptr(),
-            out.len(),
-            &mut answer,
-        )
-    };
-    answer
-}
-
-pub fn write_cdef_params(record: &[i32; 38], place: u32, out: &mut [u8]) -> [u32; 3] {
-    let mut answer = [0; 3];
-    // SAFETY: `out` is lent for the call, with its own length; `answer` is a local. Any place is allowed.
-    unsafe {
-        friscurella_write_cdef_params(record, place, out.as_mut_ptr(), out.len(), &mut answer)
-    };
-    answer
-}
-
-pub fn write_lr_params(record: &[i32; 14], place: u32, out: &mut [u8]) -> [u32; 3] {
-    let mut answer = [0; 3];
-    // SAFETY: `out` is lent for the call, with its own length; `answer` is a local. Any place is allowed.
-    unsafe { friscurella_write_lr_params(record, place, out.as_mut_ptr(), out.len(), &mut answer) };
-    answer
-}
-
-pub fn read_sequence_header(input: &[u8]) -> ([u32; 347], [u32; 3]) {
-    let (mut record, mut answer) = ([0; 347], [0; 3]);
+pub fn read_sequence_header(input: &[u8]) -> ([u32; 347], Answer) {
+    let (mut record, mut answer) = ([0; 347], [0; 4]);
     // SAFETY: `input` is lent for the call, with its own length; `record` and `answer` are locals.
     unsafe {
         friscurella_read_sequence_header(input.as_ptr(), input.len(), &mut record, &mut answer)
@@ -156,6 +129,7 @@ pub fn payload(input: &[u8]) -> [u32; 2] {
 }
 
 pub fn is_temporal_delimiter(input: &[u8]) -> bool {
-    // SAFETY: `input` is lent for the call, with its own length. The answer is a C `bool`, which is 0 or 1.
+    // SAFETY: `input` is lent for the call, with its own length. The answer is a C `bool`, which is
+    // 0 or 1.
     unsafe { friscurella_is_temporal_delimiter(input.as_ptr(), input.len()) }
 }

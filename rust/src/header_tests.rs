@@ -1,30 +1,80 @@
-//! The C header, this crate and the library name the same places, elements and refusals.
+//! The C header, this crate and the library have the same records, constants, elements, refusals.
 use crate::numbers::{signed, unsigned, Numbers};
-use crate::{record::*, refusal, Element};
+use crate::{record::*, refusal, version, Element, Refusal, VERSION};
 use std::fmt::Debug;
+use std::prelude::v1::*;
+use std::{format, vec};
 
 const HEADER: &str = include_str!("../../include/friscurella.h");
+const MANIFEST: &str = include_str!("../Cargo.toml");
 const ELEMENTS: &str = include_str!("../../crates/bits/src/element.rt");
+
+/// The C header without its comments.
+fn code() -> String {
+    let mut code = String::new();
+    for piece in HEADER.split("*/") {
+        code += piece.split("/*").next().unwrap();
+    }
+    code
+}
 
 /// The constants of the C header whose names begin so, in its order.
 fn constants(prefix: &str) -> Vec<(String, usize)> {
     let named = |line: &str| {
         let name = line.trim().strip_prefix("FRISCURELLA_")?;
-        let (name, rest) = name.strip_prefix(prefix)?.split_once(" = ")?;
-        let number: String = rest.chars().take_while(char::is_ascii_digit).collect();
+        let (name, number) = name.strip_prefix(prefix)?.split_once(" = ")?;
+        let number = number.trim_end().trim_end_matches(',');
         Some((name.to_string(), number.parse().unwrap()))
     };
-    HEADER.lines().filter_map(named).collect()
+    code().lines().filter_map(named).collect()
 }
 
-/// What a function of the C header returns for each name that begins so.
-fn words(prefix: &str) -> Vec<(String, String)> {
-    let cased = |line: &str| {
-        let name = line.trim().strip_prefix("case FRISCURELLA_")?;
-        let (name, words) = name.strip_prefix(prefix)?.split_once(": return \"")?;
-        Some((name.to_string(), words.trim_end_matches("\";").to_string()))
+/// The value of a constant, or a number that is written out.
+fn value(words: &str) -> usize {
+    match words.strip_prefix("FRISCURELLA_") {
+        Some(name) => constants(name)[0].1,
+        None => words.parse().unwrap(),
+    }
+}
+
+/// The members of a struct of the C header: their types, names and the lengths of their arrays.
+fn members(record: &str) -> Vec<(String, String, Vec<usize>)> {
+    let code = code();
+    let (_, body) = code
+        .split_once(&format!("struct friscurella_{record} {{"))
+        .unwrap();
+    let (body, _) = body.split_once('}').unwrap();
+    let member = |words: &str| {
+        let (kind, name) = words.trim().rsplit_once(' ')?;
+        let mut words = name.split('[');
+        let name = words.next()?.to_string();
+        let lengths = words.map(|word| value(word.trim_end_matches(']')));
+        Some((kind.to_string(), name, lengths.collect()))
     };
-    HEADER.lines().filter_map(cased).collect()
+    body.split(';').filter_map(member).collect()
+}
+
+/// The name of each number of a struct of the C header, with the members that lead to it. All
+/// numbers are of one type.
+fn numbers_of(record: &str, number: &str, at: &str) -> Vec<String> {
+    let mut names = Vec::new();
+    for (kind, name, lengths) in members(record) {
+        let mut places = vec![format!("{at}.{name}")];
+        for length in lengths {
+            let each = |place: String| (0..length).map(move |i| format!("{place}[{i}]"));
+            places = places.into_iter().flat_map(each).collect();
+        }
+        match kind.strip_prefix("struct friscurella_") {
+            Some(nested) => {
+                names.extend(places.iter().flat_map(|at| numbers_of(nested, number, at)))
+            }
+            None => {
+                assert_eq!(kind, number, "{name}");
+                names.extend(places);
+            }
+        }
+    }
+    names
 }
 
 fn names<T: Numbers>() -> Vec<String> {
@@ -33,22 +83,12 @@ fn names<T: Numbers>() -> Vec<String> {
     names
 }
 
-/// The place of each field, and of each array's first number; last the count of the numbers.
-fn places(names: &[String], last: &str) -> Vec<(String, usize)> {
-    let mut places: Vec<(String, usize)> = Vec::new();
-    for (place, name) in names.iter().enumerate() {
-        let path = name.split('[').next().unwrap();
-        let field = path.rsplit('.').next().unwrap().to_uppercase();
-        if places.last().map(|(name, _)| name) != Some(&field) {
-            places.push((field, place));
-        }
-    }
-    places.push((last.to_string(), names.len()));
-    places
-}
-
-fn part<Context: Numbers, Params: Numbers>() -> Vec<(String, usize)> {
-    places(&[names::<Context>(), names::<Params>()].concat(), "COUNT")
+/// The names of a part: the context first.
+fn part<Context: Numbers, Params: Numbers>() -> Vec<String> {
+    let mut names = Vec::new();
+    Context::names(".context", &mut names);
+    Params::names("", &mut names);
+    names
 }
 
 fn assert_same<T: PartialEq + Debug>(a: &[T], b: &[T]) {
@@ -56,24 +96,34 @@ fn assert_same<T: PartialEq + Debug>(a: &[T], b: &[T]) {
     assert_eq!(a.len(), b.len());
 }
 
+/// The struct has the names, in their order, and claims as many numbers.
+fn assert_record(record: &str, number: &str, names: &[String]) {
+    assert_same(&numbers_of(record, number, ""), names);
+    let claim = format!("FRISCURELLA_NUMBERS({record}, {});", names.len());
+    assert!(HEADER.lines().any(|line| line == claim), "{claim}");
+}
+
 #[test]
-fn places_are_those_of_the_c_header() {
-    let sequence = places(&names::<SequenceHeaderObu>(), "COUNT");
-    assert_same(&constants("SEQ_"), &sequence);
-    let point = places(&names::<OperatingPoint>(), "STRIDE");
-    assert_same(&constants("POINT_"), &point);
-    let delimiter = places(&names::<ObuHeader>(), "COUNT");
-    assert_same(&constants("TD_"), &delimiter);
+fn records_are_those_of_the_c_header() {
+    assert_record("sequence_header", "uint32_t", &names::<SequenceHeaderObu>());
+    assert_record("obu_header", "uint32_t", &names::<ObuHeader>());
     let quantization = part::<QuantizationContext, QuantizationParams>();
-    assert_same(&constants("QUANT_"), &quantization);
+    assert_record("quantization_params", "int32_t", &quantization);
     let segmentation = part::<SegmentationContext, SegmentationParams>();
-    assert_same(&constants("SEG_"), &segmentation);
+    assert_record("segmentation_params", "int32_t", &segmentation);
     let loop_filter = part::<LoopFilterContext, LoopFilterParams>();
-    assert_same(&constants("LF_"), &loop_filter);
+    assert_record("loop_filter_params", "int32_t", &loop_filter);
     let cdef = part::<CdefContext, CdefParams>();
-    assert_same(&constants("CDEF_"), &cdef);
+    assert_record("cdef_params", "int32_t", &cdef);
     let restoration = part::<LoopRestorationContext, LoopRestorationParams>();
-    assert_same(&constants("LR_"), &restoration);
+    assert_record("lr_params", "int32_t", &restoration);
+}
+
+#[test]
+fn answers_are_those_of_the_c_header() {
+    let answer = [".number", ".first", ".second", ".third"].map(String::from);
+    assert_record("answer", "uint32_t", &answer);
+    assert_record("part", "uint32_t", &[".start", ".length"].map(String::from));
 }
 
 #[test]
@@ -83,6 +133,34 @@ fn names_are_as_many_as_the_numbers() {
     assert_eq!(sequence[20 + 9 * 3 + 2], ".operating_points[3].seq_tier");
     let segmentation = names::<SegmentationParams>();
     assert_eq!(segmentation[4 + 8 * 2 + 1], ".feature_enabled[2][1]");
+}
+
+#[test]
+fn constants_are_those_of_the_c_header() {
+    let (tools, mv) = (SELECT_SCREEN_CONTENT_TOOLS, SELECT_INTEGER_MV);
+    let ours = [
+        ("SLICE_LIMIT", SLICE_LIMIT),
+        ("MAX_OPERATING_POINTS", MAX_OPERATING_POINTS),
+        ("OBU_SEQUENCE_HEADER", OBU_SEQUENCE_HEADER as usize),
+        ("OBU_TEMPORAL_DELIMITER", OBU_TEMPORAL_DELIMITER as usize),
+        ("SELECT_SCREEN_CONTENT_TOOLS", tools as usize),
+        ("SELECT_INTEGER_MV", mv as usize),
+        ("PRIMARY_REF_NONE", PRIMARY_REF_NONE as usize),
+    ];
+    let ours = ours.map(|(name, value)| (name.to_string(), value));
+    let theirs = constants("");
+    assert_same(&theirs[..ours.len()], &ours);
+    assert_eq!(theirs[ours.len()].0, "DONE");
+}
+
+#[test]
+fn version_is_everywhere_the_same() {
+    assert_eq!(version(), VERSION);
+    let define = format!("#define FRISCURELLA_VERSION {VERSION}");
+    assert!(HEADER.lines().any(|line| line == define));
+    let (major, minor, patch) = (VERSION / 10000, VERSION / 100 % 100, VERSION % 100);
+    let package = format!("version = \"{major}.{minor}.{patch}\"");
+    assert!(MANIFEST.lines().any(|line| line == package));
 }
 
 #[test]
@@ -102,28 +180,61 @@ fn elements_are_those_of_the_library_and_of_the_c_header() {
     let numbered = |e| (constant(e), e.number() as usize);
     let numbers: Vec<_> = Element::ALL.iter().map(numbered).collect();
     assert_same(&numbers, &library);
-    let named = |e| (constant(e), e.to_string());
-    let names: Vec<_> = Element::ALL.iter().map(named).collect();
-    assert_same(&words("ELEMENT_"), &names);
 }
 
 #[test]
 fn refusals_are_those_of_the_c_header() {
-    let words = &words("")[Element::ALL.len()..];
-    let numbers: Vec<_> = constants("")
+    let named: Vec<_> = constants("")
         .into_iter()
-        .filter(|(name, _)| words.iter().any(|(worded, _)| worded == name))
+        .skip_while(|(name, _)| name != "DONE")
+        .take_while(|(name, _)| !name.starts_with("ELEMENT_"))
         .collect();
-    assert_eq!(numbers.len(), 9);
-    for (number, (name, words)) in words.iter().enumerate() {
-        assert_eq!(numbers[number], (name.clone(), number));
-        match refusal::done([number as u32, 17, 3]) {
-            Ok(first) => assert_eq!((first, words.as_str()), (17, "done")),
-            Err(refusal) => {
-                let told = format!("{refusal:?}").to_uppercase();
+    assert_eq!(named.len(), 9);
+    for (place, (name, number)) in named.iter().enumerate() {
+        assert_eq!(*number, place);
+        match refusal::done([place as u32, 17, 3, 0]) {
+            Ok(first) => assert_eq!((first, name.as_str()), (17, "DONE")),
+            Err(refused) => {
+                let told = format!("{refused:?}").to_uppercase();
                 assert!(told.starts_with(name), "{told}: {name}");
-                assert!(refusal.to_string().contains(words), "{refusal}: {words}");
+                let answer = refusal::answer(refused);
+                assert_eq!(refusal::done(answer), Err(refused));
             }
+        }
+    }
+}
+
+#[test]
+fn what_is_not_known_is_a_refusal() {
+    for answer in [
+        [9, 0, 0, 0],
+        [u32::MAX, 1, 2, 3],
+        [1, 0, 0, 0],
+        [1, 47, 0, 0],
+        [2, 81, 5, 0],
+        [2, 256 + 1, 0, 0],
+    ] {
+        let refused = refusal::done(answer).unwrap_err();
+        assert!(matches!(refused, Refusal::Unknown { .. }), "{refused:?}");
+        assert_eq!(refusal::answer(refused), answer);
+        assert!(!refused.to_string().is_empty());
+    }
+}
+
+/// The sentences of the library name the elements as this crate does, each one another.
+#[test]
+fn sentences_name_their_elements() {
+    for number in [1, 2] {
+        let sentence = |e: &Element| refusal::done([number, e.number(), 7, 0]).unwrap_err();
+        let sentences: Vec<_> = Element::ALL.iter().map(sentence).collect();
+        for (element, refused) in Element::ALL.iter().zip(&sentences) {
+            let sentence = refused.to_string();
+            assert!(sentence.len() + 10 < refusal::ROOM, "{sentence}");
+            let is_word = |c: char| c == '_' || c.is_ascii_alphanumeric();
+            let mut words = sentence.split(|c| !is_word(c));
+            assert!(words.any(|word| word == element.name()), "{sentence}");
+            let others = sentences.iter().filter(|other| *other != refused);
+            others.for_each(|other| assert_ne!(other.to_string(), sentence));
         }
     }
 }

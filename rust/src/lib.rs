@@ -1,39 +1,42 @@
-//! AV1 headers written and read by a library in which every function is proved: the sequence header OBU, the temporal delimiter and five
-//! parts of the frame header. This crate gives its calls the types and names of the AV1 standard.
+//! AV1 headers written and read by a library in which every function is proved: the sequence header
+//! OBU, the temporal delimiter and five parts of the frame header. This crate gives its calls the
+//! types and names of the AV1 standard.
 //!
-//! A record is written whole, as the standard codes it, or refused by the name of its first bad element with the buffer untouched.
-//! The reader accepts exactly the spellings of the records that the writer accepts.
+//! A record is written whole, as the standard codes it, or refused by the name of its first bad
+//! element with the buffer untouched. The reader accepts exactly the spellings of the records that
+//! the writer accepts.
 //!
 //! ```
-//! use friscurella::{read_sequence_header, write_sequence_header, ColorConfig, ObuHeader, SequenceHeaderObu};
+//! use friscurella::{read_sequence_header, write_sequence_header, SequenceHeaderObu};
 //!
-//! // A reduced still picture of one grey pixel.
-//! let header = SequenceHeaderObu {
-//!     obu_header: ObuHeader { obu_type: friscurella::OBU_SEQUENCE_HEADER, has_size_field: true, ..Default::default() },
-//!     still_picture: true,
-//!     reduced_still_picture_header: true,
-//!     seq_force_screen_content_tools: friscurella::SELECT_SCREEN_CONTENT_TOOLS,
-//!     seq_force_integer_mv: friscurella::SELECT_INTEGER_MV,
-//!     color_config: ColorConfig { mono_chrome: true, subsampling_x: true, subsampling_y: true, ..ColorConfig::unspecified() },
-//!     ..Default::default()
-//! };
-//! let mut buffer = [0; 16];
+//! // Video of 3840 by 2160 in 10 bits, at level 5.1.
+//! let mut header = SequenceHeaderObu::video(3840, 2160, 10);
+//! header.operating_points[0].seq_level_idx = 13;
+//! let mut buffer = [0; 64];
 //! let length = write_sequence_header(&header, &mut buffer)?;
-//! assert_eq!(buffer[..length], [0x0A, 0x04, 0x18, 0x00, 0x00, 0x11]);
 //! assert_eq!(read_sequence_header(&buffer[..length])?, header);
 //!
-//! let refusal = write_sequence_header(&header, &mut buffer[..5]).unwrap_err();
-//! assert_eq!(refusal.to_string(), "the buffer is too short: 6 bytes are needed");
+//! header.operating_points[0].seq_tier = 2;
+//! let refusal = write_sequence_header(&header, &mut buffer).unwrap_err();
+//! assert_eq!(refusal.to_string(), "seq_tier[0] does not fit its field");
 //! # Ok::<(), friscurella::Refusal>(())
 //! ```
 //!
 //! # Linking
 //!
-//! The proved library is `libboundary.a`, for x86-64 Linux; `rt staticlib boundary` writes it. The build looks for it in the folder that the
-//! environment variable `FRISCURELLA_LIB_DIR` names, or else in `target/staticlib` of the repository that this crate stands in.
-//! A call panics if the library answers what this crate does not know: the two are then of different versions.
+//! The proved library is `libfriscurella.a`, for x86-64 Linux; `rt staticlib friscurella` writes
+//! it. The build looks for it in the folder that the environment variable `FRISCURELLA_LIB_DIR`
+//! names, or else in `target/staticlib` of the repository that this crate stands in. [`version`]
+//! tells the library's version, which is to be [`VERSION`]. No call panics, whatever the library
+//! answers: what this crate does not know is [`Refusal::Unknown`].
+//!
+//! The crate needs no `std`, and allocates nothing.
+#![no_std]
 #![warn(missing_docs)]
 #![deny(unsafe_code)]
+
+#[cfg(test)]
+extern crate std;
 
 #[allow(unsafe_code)]
 mod ffi;
@@ -43,9 +46,18 @@ mod numbers;
 mod record;
 mod refusal;
 
-use numbers::{signed, unsigned, Numbers};
+use numbers::{from_unsigned, signed, unsigned, Numbers};
 pub use record::*;
 pub use refusal::{Element, Refusal};
+
+/// The version of the library that this crate is for: 10000 * major + 100 * minor + patch.
+pub const VERSION: u32 = 200;
+
+/// The version of the library that is linked. Another than [`VERSION`] may answer what this crate
+/// does not know.
+pub fn version() -> u32 {
+    ffi::version()
+}
 
 // The lengths of the arrays that cross.
 const _: () = assert!(SequenceHeaderObu::COUNT == 347 && ObuHeader::COUNT == 5);
@@ -55,19 +67,21 @@ const _: () = assert!(LoopFilterContext::COUNT + LoopFilterParams::COUNT == 20);
 const _: () = assert!(CdefContext::COUNT + CdefParams::COUNT == 38);
 const _: () = assert!(LoopRestorationContext::COUNT + LoopRestorationParams::COUNT == 14);
 
-/// Writes a sequence header OBU (5.5) at the start of `out`, in its shortest spelling, and answers the number of its bytes. All bytes behind
-/// them are as they were.
+/// Writes a sequence header OBU (5.5) at the start of `out`, in its shortest spelling, and answers
+/// the number of its bytes. All bytes behind them are as they were.
 ///
 /// # Errors
 ///
-/// The first of: [`Refusal::Long`]; [`Refusal::Inconsistent`] or [`Refusal::Unfit`] at the first element, in the order of the standard, that earns
-/// it; [`Refusal::Short`]. No byte of `out` has changed then.
+/// The first of: [`Refusal::Long`]; [`Refusal::Inconsistent`] or [`Refusal::Unfit`] at the first
+/// element, in the order of the standard, that earns it; [`Refusal::Short`]. No byte of `out` has
+/// changed then.
 pub fn write_sequence_header(header: &SequenceHeaderObu, out: &mut [u8]) -> Result<usize, Refusal> {
     let answer = ffi::write_sequence_header(&unsigned(header), out);
     refusal::done(answer).map(|bytes| bytes as usize)
 }
 
-/// Writes a temporal delimiter OBU (5.6) at the start of `out`, and answers the number of its bytes.
+/// Writes a temporal delimiter OBU (5.6) at the start of `out`, and answers the number of its
+/// bytes.
 ///
 /// # Errors
 ///
@@ -77,13 +91,14 @@ pub fn write_temporal_delimiter(header: &ObuHeader, out: &mut [u8]) -> Result<us
     refusal::done(answer).map(|bytes| bytes as usize)
 }
 
-/// Writes `quantization_params` (5.9.12) from the bit `place` of `out` on (bit 0 is the top bit of the first byte), and answers the bit behind
-/// its last. All other bits are as they were.
+/// Writes `quantization_params` (5.9.12) from the bit `place` of `out` on (bit 0 is the top bit of
+/// the first byte), and answers the bit behind its last. All other bits are as they were.
 ///
 /// # Errors
 ///
-/// The first of: [`Refusal::Long`]; [`Refusal::Inconsistent`] or [`Refusal::Unfit`] at the first element, in the order of the standard, that earns
-/// it; [`Refusal::Short`], also where `place` is beyond the end. No bit of `out` has changed then.
+/// The first of: [`Refusal::Long`]; [`Refusal::Inconsistent`] or [`Refusal::Unfit`] at the first
+/// element, in the order of the standard, that earns it; [`Refusal::Short`], also where `place` is
+/// beyond the end. No bit of `out` has changed then.
 pub fn write_quantization_params(
     params: &QuantizationParams,
     context: &QuantizationContext,
@@ -97,7 +112,8 @@ pub fn write_quantization_params(
     ))
 }
 
-/// Writes `segmentation_params` (5.9.14) from the bit `place` of `out` on, and answers the bit behind its last.
+/// Writes `segmentation_params` (5.9.14) from the bit `place` of `out` on, and answers the bit
+/// behind its last.
 ///
 /// # Errors
 ///
@@ -115,7 +131,8 @@ pub fn write_segmentation_params(
     ))
 }
 
-/// Writes `loop_filter_params` (5.9.11) from the bit `place` of `out` on, and answers the bit behind its last.
+/// Writes `loop_filter_params` (5.9.11) from the bit `place` of `out` on, and answers the bit
+/// behind its last.
 ///
 /// # Errors
 ///
@@ -133,7 +150,8 @@ pub fn write_loop_filter_params(
     ))
 }
 
-/// Writes `cdef_params` (5.9.19) from the bit `place` of `out` on, and answers the bit behind its last.
+/// Writes `cdef_params` (5.9.19) from the bit `place` of `out` on, and answers the bit behind its
+/// last.
 ///
 /// # Errors
 ///
@@ -147,7 +165,8 @@ pub fn write_cdef_params(
     refusal::done(ffi::write_cdef_params(&signed(context, params), place, out))
 }
 
-/// Writes `lr_params` (5.9.20) from the bit `place` of `out` on, and answers the bit behind its last.
+/// Writes `lr_params` (5.9.20) from the bit `place` of `out` on, and answers the bit behind its
+/// last.
 ///
 /// # Errors
 ///
@@ -161,24 +180,25 @@ pub fn write_lr_params(
     refusal::done(ffi::write_lr_params(&signed(context, params), place, out))
 }
 
-/// Reads a sequence header OBU (5.5), which has to be the whole input. Inferred fields of the record hold the inferred value, and fields neither
-/// coded nor inferred are 0.
+/// Reads a sequence header OBU (5.5), which has to be the whole input. Inferred fields of the
+/// record hold the inferred value, and fields neither coded nor inferred are 0.
 ///
 /// # Errors
 ///
-/// The first refusal that reading meets: the input is then no spelling of a record that [`write_sequence_header`] accepts.
+/// The first refusal that reading meets: the input is then no spelling of a record that
+/// [`write_sequence_header`] accepts.
 pub fn read_sequence_header(input: &[u8]) -> Result<SequenceHeaderObu, Refusal> {
     let (numbers, answer) = ffi::read_sequence_header(input);
     refusal::done(answer)?;
-    let mut numbers = numbers.into_iter().map(i64::from);
-    Ok(SequenceHeaderObu::take(&mut || numbers.next().unwrap_or(0)))
+    Ok(from_unsigned(&numbers))
 }
 
-/// The payload of a sequence header OBU, as a part of the input: all behind the size field, or behind the header if there is no size field.
-/// It is empty where [`read_sequence_header`] refuses the input.
+/// The payload of a sequence header OBU, as a part of the input: all behind the size field, or
+/// behind the header if there is no size field. It is empty where [`read_sequence_header`] refuses
+/// the input.
 pub fn payload(input: &[u8]) -> &[u8] {
-    let [start, length] = ffi::payload(input);
-    &input[start as usize..][..length as usize]
+    let [start, length] = ffi::payload(input).map(|n| n as usize);
+    input.get(start..start + length).unwrap_or_default()
 }
 
 /// Whether the input is the temporal delimiter without extension: `12 00`, or `10`.

@@ -1,4 +1,9 @@
-//! A record as the list of numbers that crosses to the library, and back. The order is that of the places in `include/friscurella.h`.
+//! A record as the list of numbers that crosses to the library, and back: those of the structs of
+//! `include/friscurella.h`, in their order.
+
+#[cfg(test)]
+pub(crate) type Names = std::vec::Vec<std::string::String>;
+
 /// A field, or a record of fields in the order of their numbers.
 pub(crate) trait Numbers: Sized {
     /// How many numbers it has.
@@ -10,7 +15,7 @@ pub(crate) trait Numbers: Sized {
 
     /// The name of each number, with the fields that lead to it.
     #[cfg(test)]
-    fn names(at: &str, names: &mut Vec<String>);
+    fn names(at: &str, names: &mut Names);
 }
 
 macro_rules! number {
@@ -27,20 +32,20 @@ macro_rules! number {
             }
 
             #[cfg(test)]
-            fn names(at: &str, names: &mut Vec<String>) {
-                names.push(at.to_string());
+            fn names(at: &str, names: &mut Names) {
+                names.push(at.into());
             }
         })+
     };
 }
 
-// The reader answers no number that its field does not hold.
+// A number that its field does not hold becomes the nearest that it does.
 number! {
     bool |n| n != 0;
-    u8 |n| n as u8;
-    u32 |n| n as u32;
-    i8 |n| n as i8;
-    i16 |n| n as i16;
+    u8 |n: i64| n.clamp(0, u8::MAX.into()) as u8;
+    u32 |n: i64| n.clamp(0, u32::MAX.into()) as u32;
+    i8 |n: i64| n.clamp(i8::MIN.into(), i8::MAX.into()) as i8;
+    i16 |n: i64| n.clamp(i16::MIN.into(), i16::MAX.into()) as i16;
 }
 
 impl<T: Numbers, const N: usize> Numbers for [T; N] {
@@ -53,20 +58,22 @@ impl<T: Numbers, const N: usize> Numbers for [T; N] {
     }
 
     fn take(next: &mut impl FnMut() -> i64) -> Self {
-        std::array::from_fn(|_| T::take(next))
+        core::array::from_fn(|_| T::take(next))
     }
 
     #[cfg(test)]
-    fn names(at: &str, names: &mut Vec<String>) {
+    fn names(at: &str, names: &mut Names) {
         for i in 0..N {
-            T::names(&format!("{at}[{i}]"), names);
+            T::names(&std::format!("{at}[{i}]"), names);
         }
     }
 }
 
 /// A record of the standard: the order of its fields is the order of its numbers.
 macro_rules! record {
-    ($(#[$about:meta])* pub struct $record:ident { $($(#[$note:meta])* pub $field:ident: $type:ty,)+ }) => {
+    ($(#[$about:meta])* pub struct $record:ident {
+        $($(#[$note:meta])* pub $field:ident: $type:ty,)+
+    }) => {
         $(#[$about])*
         pub struct $record {
             $($(#[$note])* pub $field: $type,)+
@@ -85,8 +92,8 @@ macro_rules! record {
             }
 
             #[cfg(test)]
-            fn names(at: &str, names: &mut Vec<String>) {
-                $(<$type>::names(&format!("{at}.{}", stringify!($field)), names);)+
+            fn names(at: &str, names: &mut $crate::numbers::Names) {
+                $(<$type>::names(&std::format!("{at}.{}", stringify!($field)), names);)+
             }
         }
     };
@@ -105,8 +112,14 @@ pub(crate) fn unsigned<const N: usize>(record: &impl Numbers) -> [u32; N] {
     numbers
 }
 
-/// The numbers of a part of the frame header: the context first. A number over 2^31 - 1 crosses as 2^31 - 1: every field of a part takes or refuses
-/// the two alike.
+/// The record of numbers that have no sign.
+pub(crate) fn from_unsigned<T: Numbers>(numbers: &[u32]) -> T {
+    let mut numbers = numbers.iter().copied().map(i64::from);
+    T::take(&mut || numbers.next().unwrap_or(0))
+}
+
+/// The numbers of a part of the frame header: the context first. A number over 2^31 - 1 crosses as
+/// 2^31 - 1: every field of a part takes or refuses the two alike.
 pub(crate) fn signed<const N: usize>(context: &impl Numbers, params: &impl Numbers) -> [i32; N] {
     let mut numbers = [0; N];
     let mut at = numbers.iter_mut();

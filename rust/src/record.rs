@@ -1,6 +1,14 @@
-//! The records, with the names of the standard. `f(n)`, `su(n)` and `uvlc` are the codes of section 4.10, and a condition says when a field is coded.
-//! A field that is not coded has to hold the value said here for that case; if none is said, it is not looked at.
-use crate::numbers::{record, Numbers};
+//! The records, with the names of the standard. `f(n)`, `su(n)` and `uvlc` are the codes of section
+//! 4.10, and a condition says when a field is coded. A field that is not coded has to hold the
+//! value said here for that case; if none is said, it is not looked at.
+use crate::ffi;
+use crate::numbers::{from_unsigned, record, Numbers};
+
+/// The most bytes of a slice that a writer or a reader takes.
+pub const SLICE_LIMIT: usize = 65536;
+
+/// The most operating points of a sequence header.
+pub const MAX_OPERATING_POINTS: usize = 32;
 
 /// `obu_type` of a sequence header.
 pub const OBU_SEQUENCE_HEADER: u32 = 1;
@@ -23,13 +31,13 @@ record! {
     pub struct ObuHeader {
         /// f(4): what the OBU is. Each writer takes its own type only.
         pub obu_type: u32,
-        /// f(1): whether the two ids are coded.
+        /// `obu_extension_flag`, f(1): whether the two ids are coded.
         pub extension_flag: bool,
-        /// f(1): whether the OBU's size is coded.
+        /// `obu_has_size_field`, f(1): whether the OBU's size is coded.
         pub has_size_field: bool,
-        /// f(3), with the extension.
+        /// f(3), with `extension_flag`.
         pub temporal_id: u32,
-        /// f(2), with the extension.
+        /// f(2), with `extension_flag`.
         pub spatial_id: u32,
     }
 }
@@ -65,16 +73,17 @@ record! {
 }
 
 record! {
-    /// One operating point of the sequence header (5.5.1), with its `operating_parameters_info` (5.5.5).
+    /// One operating point of the sequence header (5.5.1), with its `operating_parameters_info`
+    /// (5.5.5).
     #[derive(Clone, Copy, Debug, Default, PartialEq, Eq, Hash)]
     pub struct OperatingPoint {
         /// `operating_point_idc`, f(12); 0 in a reduced header.
         pub idc: u32,
         /// f(5)
         pub seq_level_idx: u32,
-        /// f(1), at levels over 7; else 0. Not looked at in a reduced header.
+        /// f(1), 0 or 1, at levels over 7; else 0. Not looked at in a reduced header.
         pub seq_tier: u32,
-        /// f(1), with `decoder_model_info_present_flag`; else 0.
+        /// f(1), with `decoder_model_info_present_flag`; else 0. 0 in a reduced header.
         pub decoder_model_present_for_this_op: bool,
         /// f(`buffer_delay_length_minus_1` + 1), with `decoder_model_present_for_this_op`.
         pub decoder_buffer_delay: u32,
@@ -84,36 +93,39 @@ record! {
         pub low_delay_mode_flag: bool,
         /// f(1), with `initial_display_delay_present_flag`; 0 in a reduced header.
         pub initial_display_delay_present_for_this_op: bool,
-        /// f(4), with `initial_display_delay_present_for_this_op`.
+        /// f(4), with `initial_display_delay_present_for_this_op`, where that is coded.
         pub initial_display_delay_minus_1: u32,
     }
 }
 
 record! {
-    /// `color_config` (5.5.2).
+    /// `color_config` (5.5.2). sRGB is `color_primaries` 1, `transfer_characteristics` 13 and
+    /// `matrix_coefficients` 0; there are three planes if not `mono_chrome`.
     #[derive(Clone, Copy, Debug, Default, PartialEq, Eq, Hash)]
     pub struct ColorConfig {
         /// f(1)
         pub high_bitdepth: bool,
         /// f(1), in profile 2 with `high_bitdepth`; else 0.
         pub twelve_bit: bool,
-        /// f(1), but for profile 1, where it is 0.
+        /// f(1), in profiles 0 and 2; else 0.
         pub mono_chrome: bool,
         /// f(1)
         pub color_description_present_flag: bool,
-        /// f(8), with a description; else 2.
+        /// f(8), with `color_description_present_flag`; else 2.
         pub color_primaries: u32,
-        /// f(8), with a description; else 2.
+        /// f(8), with `color_description_present_flag`; else 2.
         pub transfer_characteristics: u32,
-        /// f(8), with a description; else 2.
+        /// f(8), with `color_description_present_flag`; else 2.
         pub matrix_coefficients: u32,
         /// f(1); 1 with three planes of sRGB.
         pub color_range: bool,
-        /// 1 if `mono_chrome`, 0 for sRGB; else 1 in profile 0, 0 in profile 1, and in profile 2 f(1) at twelve bits, 1 below.
+        /// 1 if `mono_chrome`, 0 for sRGB; else 1 in profile 0, 0 in profile 1, and in profile 2
+        /// f(1) with `twelve_bit`, 1 without.
         pub subsampling_x: bool,
-        /// 1 if `mono_chrome`, 0 for sRGB; else 1 in profile 0, 0 in profile 1, and in profile 2 f(1) at twelve bits with `subsampling_x`, 0 without.
+        /// 1 if `mono_chrome`, 0 for sRGB; else 1 in profile 0, 0 in profile 1, and in profile 2
+        /// f(1) with `twelve_bit` and `subsampling_x`, 0 without.
         pub subsampling_y: bool,
-        /// f(2), with three planes of 4:2:0 and not sRGB; else 0.
+        /// f(2), with three planes of 4:2:0 that are not sRGB; else 0.
         pub chroma_sample_position: u32,
         /// f(1), with three planes; else 0.
         pub separate_uv_delta_q: bool,
@@ -144,7 +156,8 @@ record! {
         pub still_picture: bool,
         /// f(1): most fields below are then not coded.
         pub reduced_still_picture_header: bool,
-        /// f(1); 0 in a reduced header.
+        /// f(1); 0 in a reduced header, which is refused under `reduced_still_picture_header` if
+        /// not.
         pub timing_info_present_flag: bool,
         /// With `timing_info_present_flag`.
         pub timing_info: TimingInfo,
@@ -154,13 +167,13 @@ record! {
         pub decoder_model_info: DecoderModelInfo,
         /// f(1); 0 in a reduced header.
         pub initial_display_delay_present_flag: bool,
-        /// f(5); 0 in a reduced header.
+        /// f(5): 0 to 31; 0 in a reduced header.
         pub operating_points_cnt_minus_1: u32,
         /// The first `operating_points_cnt_minus_1` + 1 of them.
-        pub operating_points: [OperatingPoint; 32],
-        /// f(4): the bits of the width, less one.
+        pub operating_points: [OperatingPoint; MAX_OPERATING_POINTS],
+        /// f(4): the bits, less one, of the width below.
         pub frame_width_bits_minus_1: u8,
-        /// f(4): the bits of the height, less one.
+        /// f(4): the bits, less one, of the height below.
         pub frame_height_bits_minus_1: u8,
         /// f(`frame_width_bits_minus_1` + 1)
         pub max_frame_width_minus_1: u32,
@@ -192,17 +205,21 @@ record! {
         pub enable_jnt_comp: bool,
         /// f(1), with `enable_order_hint`; else 0.
         pub enable_ref_frame_mvs: bool,
-        /// f(1), but for a reduced header.
+        /// f(1). Not looked at in a reduced header.
         pub seq_choose_screen_content_tools: bool,
-        /// f(1); [`SELECT_SCREEN_CONTENT_TOOLS`] with `seq_choose_screen_content_tools` or a reduced header.
+        /// f(1), 0 or 1; [`SELECT_SCREEN_CONTENT_TOOLS`] with `seq_choose_screen_content_tools` or
+        /// in a reduced header.
         pub seq_force_screen_content_tools: u32,
-        /// f(1), where `seq_force_screen_content_tools` is over 0.
+        /// f(1), where `seq_force_screen_content_tools` is over 0. Not looked at in a reduced
+        /// header.
         pub seq_choose_integer_mv: bool,
-        /// f(1); [`SELECT_INTEGER_MV`] with `seq_choose_integer_mv`, with a reduced header, or where `seq_force_screen_content_tools` is 0.
+        /// f(1), 0 or 1; [`SELECT_INTEGER_MV`] with `seq_choose_integer_mv`, where
+        /// `seq_force_screen_content_tools` is 0, or in a reduced header.
         pub seq_force_integer_mv: u32,
         /// f(3), with `enable_order_hint`.
         pub order_hint_bits_minus_1: u8,
-        /// `OrderHintBits`, not coded: one more than `order_hint_bits_minus_1` with `enable_order_hint`; else 0.
+        /// `OrderHintBits`, not coded: one more than `order_hint_bits_minus_1` with
+        /// `enable_order_hint`; else 0.
         pub order_hint_bits: u32,
         /// f(1)
         pub enable_superres: bool,
@@ -214,6 +231,17 @@ record! {
         pub color_config: ColorConfig,
         /// f(1)
         pub film_grain_params_present: bool,
+    }
+}
+
+impl SequenceHeaderObu {
+    /// A header to start from: 4:2:0 video of 8, 10 or 12 bits, with a size field, at level 31
+    /// (maximum parameters), every coding tool but superres enabled; no timing, no colour
+    /// description, no frame ids, no film grain.
+    /// [`write_sequence_header`](crate::write_sequence_header) accepts it for a width and a height
+    /// of 1 to 65,536, and refuses it for others and for another bit depth.
+    pub fn video(width: u32, height: u32, bit_depth: u32) -> SequenceHeaderObu {
+        from_unsigned(&ffi::video(width, height, bit_depth))
     }
 }
 
@@ -229,22 +257,25 @@ record! {
 }
 
 record! {
-    /// `quantization_params` (5.9.12). A delta is a flag and, if it is not 0, su(7): -64 to 63.
+    /// `quantization_params` (5.9.12). A delta is f(1) and, if it is not 0, su(7): -64 to 63.
     #[derive(Clone, Copy, Debug, Default, PartialEq, Eq, Hash)]
     pub struct QuantizationParams {
         /// f(8)
         pub base_q_idx: u32,
-        /// `DeltaQYDc`
+        /// `DeltaQYDc`, a delta.
         pub delta_q_y_dc: i8,
-        /// f(1), with three planes and `separate_uv_delta_q`; 0 with three planes and without.
+        /// f(1), with three planes and `separate_uv_delta_q`; 0 with three planes and without. Not
+        /// looked at with one.
         pub diff_uv_delta: bool,
-        /// `DeltaQUDc`; 0 with one plane.
+        /// `DeltaQUDc`, a delta with three planes; else 0.
         pub delta_q_u_dc: i8,
-        /// `DeltaQUAc`; 0 with one plane.
+        /// `DeltaQUAc`, a delta with three planes; else 0.
         pub delta_q_u_ac: i8,
-        /// `DeltaQVDc`; that of U without `diff_uv_delta`.
+        /// `DeltaQVDc`, a delta with three planes and `diff_uv_delta`; else that of U, which is 0
+        /// with one plane.
         pub delta_q_v_dc: i8,
-        /// `DeltaQVAc`; that of U without `diff_uv_delta`.
+        /// `DeltaQVAc`, a delta with three planes and `diff_uv_delta`; else that of U, which is 0
+        /// with one plane.
         pub delta_q_v_ac: i8,
         /// f(1)
         pub using_qmatrix: bool,
@@ -252,7 +283,8 @@ record! {
         pub qm_y: u32,
         /// f(4), with `using_qmatrix`.
         pub qm_u: u32,
-        /// f(4), with `using_qmatrix` and `separate_uv_delta_q`; that of U with `using_qmatrix` alone.
+        /// f(4), with `using_qmatrix` and `separate_uv_delta_q`; that of U with `using_qmatrix`
+        /// alone.
         pub qm_v: u32,
     }
 }
@@ -267,20 +299,24 @@ record! {
 }
 
 record! {
-    /// `segmentation_params` (5.9.14). A refusal's index is 8 times the segment, plus the feature.
+    /// `segmentation_params` (5.9.14). Only `segmentation_enabled` is looked at where it is not
+    /// set. A refusal's index is 8 times the segment, plus the feature.
     #[derive(Clone, Copy, Debug, Default, PartialEq, Eq, Hash)]
     pub struct SegmentationParams {
         /// f(1)
         pub segmentation_enabled: bool,
-        /// f(1), with a primary reference; else 1.
+        /// f(1), with a reference; else 1.
         pub segmentation_update_map: bool,
-        /// f(1), with a primary reference and `segmentation_update_map`; 0 without a reference.
+        /// f(1), with a reference and `segmentation_update_map`; 0 without a reference.
         pub segmentation_temporal_update: bool,
-        /// f(1), with a primary reference; else 1.
+        /// f(1), with a reference; else 1.
         pub segmentation_update_data: bool,
-        /// `FeatureEnabled`: eight features of eight segments; all 0 without `segmentation_update_data`.
+        /// `FeatureEnabled`, of each segment its eight features: f(1) each, with
+        /// `segmentation_update_data`; else 0.
         pub feature_enabled: [[bool; 8]; 8],
-        /// `FeatureData`, clipped to the feature's limit; all 0 without `segmentation_update_data`.
+        /// `FeatureData`, where `feature_enabled` is set: su(9) of feature 0, clipped to -255 to
+        /// 255; su(7) of 1 to 4, clipped to -63 to 63; f(3) of 5, clipped to 0 to 7; no bits of 6
+        /// and 7. All are 0 without `segmentation_update_data`.
         pub feature_data: [[i16; 8]; 8],
     }
 }
@@ -302,7 +338,8 @@ record! {
     /// `loop_filter_params` (5.9.11). Nothing is coded with `coded_lossless` or `allow_intrabc`.
     #[derive(Clone, Copy, Debug, Default, PartialEq, Eq, Hash)]
     pub struct LoopFilterParams {
-        /// f(6) each; 2 and 3 with three planes and 0 or 1 not 0.
+        /// f(6) each, 2 and 3 only with three planes and if 0 or 1 is not 0. 0 and 1 are 0 where
+        /// nothing is coded.
         pub loop_filter_level: [u32; 4],
         /// f(3)
         pub loop_filter_sharpness: u32,
@@ -310,9 +347,11 @@ record! {
         pub loop_filter_delta_enabled: bool,
         /// f(1), with `loop_filter_delta_enabled`.
         pub loop_filter_delta_update: bool,
-        /// A set flag and su(7) each, with `loop_filter_delta_update`; 1, 0, 0, 0, 0, -1, -1, -1 where nothing is coded.
+        /// A set flag and su(7) each, where `loop_filter_delta_update` is coded and set; 1, 0, 0,
+        /// 0, 0, -1, -1, -1 where nothing is coded.
         pub loop_filter_ref_deltas: [i8; 8],
-        /// A set flag and su(7) each, with `loop_filter_delta_update`; 0, 0 where nothing is coded.
+        /// A set flag and su(7) each, where `loop_filter_delta_update` is coded and set; 0, 0 where
+        /// nothing is coded.
         pub loop_filter_mode_deltas: [i8; 2],
     }
 }
@@ -333,12 +372,13 @@ record! {
 }
 
 record! {
-    /// `cdef_params` (5.9.19). Nothing is coded with `coded_lossless` or `allow_intrabc` or without `enable_cdef`.
+    /// `cdef_params` (5.9.19). Nothing is coded with `coded_lossless` or `allow_intrabc` or without
+    /// `enable_cdef`: then the first of each strength is 0, and the others are not looked at.
     #[derive(Clone, Copy, Debug, Default, PartialEq, Eq, Hash)]
     pub struct CdefParams {
-        /// f(2): 2^`cdef_bits` of the eight strengths are coded; 0 where nothing is coded.
+        /// f(2): the first 2^`cdef_bits` of each strength are coded; 0 where nothing is coded.
         pub cdef_bits: u32,
-        /// 3 to 6, coded less 3 in f(2); 3 where nothing is coded.
+        /// 3 to 6, f(2) of 3 less; 3 where nothing is coded.
         pub cdef_damping: u32,
         /// f(4) each.
         pub cdef_y_pri_strength: [u32; 8],
@@ -373,18 +413,22 @@ record! {
 }
 
 record! {
-    /// `lr_params` (5.9.20). Nothing is coded with `all_lossless` or `allow_intrabc` or without `enable_restoration`.
+    /// `lr_params` (5.9.20). Nothing is coded with `all_lossless` or `allow_intrabc` or without
+    /// `enable_restoration`: then `frame_restoration_type` is 0, 0, 0, `uses_lr` is not set, and no
+    /// more is looked at.
     #[derive(Clone, Copy, Debug, Default, PartialEq, Eq, Hash)]
     pub struct LoopRestorationParams {
-        /// `lr_type`, f(2) each: none 0, switchable 1, Wiener 2, self-guided 3. With one plane only the first is coded.
+        /// `lr_type`, f(2) each: none 0, switchable 1, Wiener 2, self-guided 3. With one plane only
+        /// the first is coded.
         pub frame_restoration_type: [u32; 3],
         /// `UsesLr`, not coded: whether a coded kind is not 0.
         pub uses_lr: bool,
         /// `usesChromaLr`, not coded: whether a coded kind of chroma is not 0.
         pub uses_chroma_lr: bool,
-        /// 0 to 2, where `uses_lr`; not 0 with `use_128x128_superblock`.
+        /// With `uses_lr`: 0 to 2, in the bits 0, 10 and 11; with `use_128x128_superblock` 1 or 2,
+        /// f(1) of one less.
         pub lr_unit_shift: u32,
-        /// f(1), where `uses_chroma_lr` and 4:2:0; else 0 where `uses_lr`.
+        /// f(1), 0 or 1, with `uses_chroma_lr` and 4:2:0; else 0 with `uses_lr`.
         pub lr_uv_shift: u32,
     }
 }

@@ -1,18 +1,23 @@
 //! Why nothing was written, or nothing read.
-use std::error::Error;
-use std::fmt;
+use crate::ffi::{self, Answer};
+use core::error::Error;
+use core::fmt::{self, Write};
 
-/// Why nothing was written, or nothing read.
+/// Why nothing was written, or nothing read. Its words are the library's, one sentence.
 #[derive(Clone, Copy, Debug, PartialEq, Eq, Hash)]
+#[non_exhaustive]
 pub enum Refusal {
     /// An element is inconsistent with others, or has a value that the rules forbid.
+    #[non_exhaustive]
     Inconsistent {
         /// The first such element.
         element: Element,
-        /// The operating point or the place in an array; 0 where nothing repeats or several places are compared at once.
+        /// The operating point or the place in an array; 0 where nothing repeats or several places
+        /// are compared at once.
         index: u32,
     },
     /// A value does not fit its field.
+    #[non_exhaustive]
     Unfit {
         /// The first such element.
         element: Element,
@@ -20,8 +25,10 @@ pub enum Refusal {
         index: u32,
     },
     /// The buffer is too short.
+    #[non_exhaustive]
     Short {
-        /// The least length, in bytes, that is enough. (It may be over 65,536, which no call takes.)
+        /// The least length, in bytes, that is enough. (It may be over
+        /// [`SLICE_LIMIT`](crate::SLICE_LIMIT), which no call takes.)
         needed: u32,
     },
     /// The input ends inside header, size or body.
@@ -32,74 +39,81 @@ pub enum Refusal {
     Size,
     /// The trailing bits are wrong.
     Trailing,
-    /// The slice is longer than 65,536 bytes.
+    /// The slice is longer than [`SLICE_LIMIT`](crate::SLICE_LIMIT).
     Long,
+    /// The library refuses with a number, or for an element, that this crate does not know: the two
+    /// are of different versions.
+    #[non_exhaustive]
+    Unknown {
+        /// The number of the refusal.
+        number: u32,
+        /// What it carries.
+        first: u32,
+        /// What it carries.
+        second: u32,
+        /// What it carries.
+        third: u32,
+    },
 }
 
 /// The first value of an answer if its number is 0, or the refusal that the answer tells.
-pub(crate) fn done([number, first, second]: [u32; 3]) -> Result<u32, Refusal> {
-    let element = || {
-        Element::from_number(first).unwrap_or_else(|| {
-            panic!("libboundary.a names element {first}: it is of another version")
-        })
-    };
-    Err(match number {
+pub(crate) fn done([number, first, second, third]: Answer) -> Result<u32, Refusal> {
+    let element = || Element::from_number(first);
+    let index = second;
+    let known = match number {
         0 => return Ok(first),
-        1 => Refusal::Inconsistent {
-            element: element(),
-            index: second,
-        },
-        2 => Refusal::Unfit {
-            element: element(),
-            index: second,
-        },
-        3 => Refusal::Short { needed: first },
-        4 => Refusal::Ends,
-        5 => Refusal::Reserved,
-        6 => Refusal::Size,
-        7 => Refusal::Trailing,
-        8 => Refusal::Long,
-        _ => panic!("libboundary.a answers {number}: it is of another version"),
-    })
+        1 => element().map(|element| Refusal::Inconsistent { element, index }),
+        2 => element().map(|element| Refusal::Unfit { element, index }),
+        3 => Some(Refusal::Short { needed: first }),
+        4 => Some(Refusal::Ends),
+        5 => Some(Refusal::Reserved),
+        6 => Some(Refusal::Size),
+        7 => Some(Refusal::Trailing),
+        8 => Some(Refusal::Long),
+        _ => None,
+    };
+    Err(known.unwrap_or(Refusal::Unknown {
+        number,
+        first,
+        second,
+        third,
+    }))
 }
+
+/// The answer that tells a refusal.
+pub(crate) fn answer(refusal: Refusal) -> Answer {
+    match refusal {
+        Refusal::Inconsistent { element, index } => [1, element.number(), index, 0],
+        Refusal::Unfit { element, index } => [2, element.number(), index, 0],
+        Refusal::Short { needed } => [3, needed, 0, 0],
+        Refusal::Ends => [4, 0, 0, 0],
+        Refusal::Reserved => [5, 0, 0, 0],
+        Refusal::Size => [6, 0, 0, 0],
+        Refusal::Trailing => [7, 0, 0, 0],
+        Refusal::Long => [8, 0, 0, 0],
+        Refusal::Unknown {
+            number,
+            first,
+            second,
+            third,
+        } => [number, first, second, third],
+    }
+}
+
+/// More than the longest sentence has; a longer one would be cut.
+pub(crate) const ROOM: usize = 256;
 
 impl fmt::Display for Refusal {
     fn fmt(&self, f: &mut fmt::Formatter) -> fmt::Result {
-        match *self {
-            Refusal::Inconsistent { element, index } => {
-                write!(f, "{} is inconsistent", Place(element, index))
-            }
-            Refusal::Unfit { element, index } => {
-                write!(f, "{} does not fit its field", Place(element, index))
-            }
-            Refusal::Short { needed: 1 } => {
-                f.write_str("the buffer is too short: 1 byte is needed")
-            }
-            Refusal::Short { needed } => {
-                write!(f, "the buffer is too short: {needed} bytes are needed")
-            }
-            Refusal::Ends => f.write_str("the input ends inside header, size or body"),
-            Refusal::Reserved => f.write_str("a forbidden or reserved bit is set"),
-            Refusal::Size => f.write_str("the size field is wrong"),
-            Refusal::Trailing => f.write_str("the trailing bits are wrong"),
-            Refusal::Long => f.write_str("the slice is longer than 65536 bytes"),
-        }
+        let mut text = [0; ROOM];
+        let length = ffi::explain(&answer(*self), &mut text).min(ROOM - 1);
+        text[..length]
+            .iter()
+            .try_for_each(|&byte| f.write_char(char::from(byte)))
     }
 }
 
 impl Error for Refusal {}
-
-/// An element, with its index if it repeats.
-struct Place(Element, u32);
-
-impl fmt::Display for Place {
-    fn fmt(&self, f: &mut fmt::Formatter) -> fmt::Result {
-        if self.0.repeats() {
-            return write!(f, "{}[{}]", self.0, self.1);
-        }
-        write!(f, "{}", self.0)
-    }
-}
 
 macro_rules! elements {
     ($($number:literal $element:ident $name:literal,)+) => {
@@ -216,32 +230,6 @@ impl Element {
             .iter()
             .copied()
             .find(|element| element.number() == number)
-    }
-
-    /// Whether a record has the element more than once, so that a refusal's index tells which.
-    pub fn repeats(self) -> bool {
-        use Element::*;
-        matches!(
-            self,
-            OperatingPointIdc
-                | SeqLevelIdx
-                | DecoderModelPresentForThisOp
-                | InitialDisplayDelayPresentForThisOp
-                | SeqTier
-                | DecoderBufferDelay
-                | EncoderBufferDelay
-                | InitialDisplayDelayMinus1
-                | FeatureEnabled
-                | FeatureData
-                | LoopFilterLevel
-                | LoopFilterRefDeltas
-                | LoopFilterModeDeltas
-                | CdefYPriStrength
-                | CdefYSecStrength
-                | CdefUvPriStrength
-                | CdefUvSecStrength
-                | FrameRestorationType
-        )
     }
 }
 

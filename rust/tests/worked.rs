@@ -1,12 +1,30 @@
-//! The worked table that the library is proved to meet, through the functions of this crate; and what they promise of the buffer.
+//! The worked table that the library is proved to meet, through the functions of this crate; and
+//! what they promise of the buffer.
 use friscurella::*;
+use std::fmt::Debug;
 
-fn inconsistent(element: Element, index: u32) -> Refusal {
-    Refusal::Inconsistent { element, index }
+/// The element that a call refuses as inconsistent, with its index.
+fn inconsistent<T: Debug>(answer: Result<T, Refusal>) -> (Element, u32) {
+    match answer {
+        Err(Refusal::Inconsistent { element, index, .. }) => (element, index),
+        _ => panic!("{answer:?}"),
+    }
 }
 
-fn unfit(element: Element, index: u32) -> Refusal {
-    Refusal::Unfit { element, index }
+/// The element that a call refuses as unfit, with its index.
+fn unfit<T: Debug>(answer: Result<T, Refusal>) -> (Element, u32) {
+    match answer {
+        Err(Refusal::Unfit { element, index, .. }) => (element, index),
+        _ => panic!("{answer:?}"),
+    }
+}
+
+/// The length that a call would need.
+fn needed<T: Debug>(answer: Result<T, Refusal>) -> u32 {
+    match answer {
+        Err(Refusal::Short { needed, .. }) => needed,
+        _ => panic!("{answer:?}"),
+    }
 }
 
 fn obu(obu_type: u32) -> ObuHeader {
@@ -160,8 +178,11 @@ fn case_1_delimiter() {
             && !is_temporal_delimiter(&[0x10, 0x00])
     );
     assert_eq!(
-        write_temporal_delimiter(&obu(OBU_SEQUENCE_HEADER), &mut out),
-        Err(inconsistent(Element::ObuType, 0))
+        inconsistent(write_temporal_delimiter(
+            &obu(OBU_SEQUENCE_HEADER),
+            &mut out
+        )),
+        (Element::ObuType, 0)
     );
 }
 
@@ -172,10 +193,7 @@ fn cases_2_and_3_still() {
     assert_eq!(out[..6], STILL);
     assert_eq!(out[6..], [0xA5; 2]);
     let mut short = [0xA5; 5];
-    assert_eq!(
-        write_sequence_header(&still(), &mut short),
-        Err(Refusal::Short { needed: 6 })
-    );
+    assert_eq!(needed(write_sequence_header(&still(), &mut short)), 6);
     assert_eq!(short, [0xA5; 5]);
 }
 
@@ -200,8 +218,8 @@ fn cases_4_and_5_read() {
     assert_eq!(read_sequence_header(&[]), Err(Refusal::Ends));
     assert_eq!(read_sequence_header(&[0x8A]), Err(Refusal::Reserved));
     assert_eq!(
-        read_sequence_header(&[0x12, 0x00]),
-        Err(inconsistent(Element::ObuType, 0))
+        inconsistent(read_sequence_header(&[0x12, 0x00])),
+        (Element::ObuType, 0)
     );
 }
 
@@ -227,8 +245,8 @@ fn case_7_width() {
     assert!(write_sequence_header(&header, &mut out).is_ok());
     header.max_frame_width_minus_1 = 256;
     assert_eq!(
-        write_sequence_header(&header, &mut out),
-        Err(inconsistent(Element::FrameWidthBitsMinus1, 0))
+        inconsistent(write_sequence_header(&header, &mut out)),
+        (Element::FrameWidthBitsMinus1, 0)
     );
 }
 
@@ -255,7 +273,7 @@ fn case_8_su() {
         assert_eq!(out, [0, byte, 0]);
     }
     for delta in [64, -65, i8::MAX, i8::MIN] {
-        assert_eq!(write(delta, &mut [0; 3]), Err(unfit(Element::DeltaQYDc, 0)));
+        assert_eq!(unfit(write(delta, &mut [0; 3])), (Element::DeltaQYDc, 0));
     }
 }
 
@@ -277,7 +295,8 @@ fn case_9_uvlc() {
             &mut out,
         )
         .unwrap();
-        // Two bytes of header and size, three fields of 5 bits, the timing flag, two numbers of 32 bits and a flag.
+        // Two bytes of header and size, three fields of 5 bits, the timing flag, two numbers of 32
+        // bits and a flag.
         let at = 16 + 5 + 1 + 32 + 32 + 1;
         let read = (at..at + length).fold(0, |bits, i| 2 * bits + (out[i / 8] >> (7 - i % 8) & 1));
         assert_eq!(read, bits);
@@ -293,8 +312,8 @@ fn case_9_uvlc() {
         ..full()
     };
     assert_eq!(
-        write_sequence_header(&header, &mut [0; 32]),
-        Err(unfit(Element::NumTicksPerPictureMinus1, 0))
+        unfit(write_sequence_header(&header, &mut [0; 32])),
+        (Element::NumTicksPerPictureMinus1, 0)
     );
 }
 
@@ -317,8 +336,8 @@ fn case_10_quantization() {
     assert_eq!(out, [0b0110_0100, 0b1111_1111, 0b0111_1111]);
     params.base_q_idx = u32::MAX;
     assert_eq!(
-        write_quantization_params(&params, &context, &mut out, 0),
-        Err(unfit(Element::BaseQIdx, 0))
+        unfit(write_quantization_params(&params, &context, &mut out, 0)),
+        (Element::BaseQIdx, 0)
     );
 }
 
@@ -341,7 +360,10 @@ fn case_11_cdef() {
     params.cdef_bits = 1;
     params.cdef_y_sec_strength[1] = 3;
     let refusal = write_cdef_params(&params, &context, &mut out, 0).unwrap_err();
-    assert_eq!(refusal, inconsistent(Element::CdefYSecStrength, 1));
+    assert_eq!(
+        inconsistent::<u32>(Err(refusal)),
+        (Element::CdefYSecStrength, 1)
+    );
     assert_eq!(
         refusal.to_string(),
         "cdef_y_sec_strength[1] is inconsistent"
@@ -395,8 +417,8 @@ fn segmentation() {
     assert_eq!(out[2], 0b0000_0001);
     params.segmentation_update_data = false;
     assert_eq!(
-        write_segmentation_params(&params, &context, &mut out, 0),
-        Err(inconsistent(Element::SegmentationUpdateData, 0))
+        inconsistent(write_segmentation_params(&params, &context, &mut out, 0)),
+        (Element::SegmentationUpdateData, 0)
     );
 }
 
@@ -421,8 +443,8 @@ fn loop_filter() {
     params.loop_filter_delta_update = true;
     params.loop_filter_ref_deltas[7] = 64;
     assert_eq!(
-        write_loop_filter_params(&params, &context, &mut [0; 32], 0),
-        Err(unfit(Element::LoopFilterRefDeltas, 7))
+        unfit(write_loop_filter_params(&params, &context, &mut [0; 32], 0)),
+        (Element::LoopFilterRefDeltas, 7)
     );
     params.loop_filter_ref_deltas[7] = 63;
     assert_eq!(
@@ -447,10 +469,10 @@ fn a_part_keeps_the_bits_around_it() {
     assert_eq!(write_lr_params(&params, &context, &mut out, 7), Ok(10));
     assert_eq!(out, [0xFF, 0b0011_1111]);
     for place in [14, 17, u32::MAX] {
-        let needed = (u64::from(place) + 3).div_ceil(8) as u32;
+        let least = (u64::from(place) + 3).div_ceil(8) as u32;
         assert_eq!(
-            write_lr_params(&params, &context, &mut out, place),
-            Err(Refusal::Short { needed })
+            needed(write_lr_params(&params, &context, &mut out, place)),
+            least
         );
         assert_eq!(out, [0xFF, 0b0011_1111]);
     }
@@ -471,7 +493,7 @@ fn a_refusal_names_its_point_and_keeps_the_buffer() {
     header.operating_points[3].seq_tier = 1;
     let mut out = [0xA5; 1000];
     let refusal = write_sequence_header(&header, &mut out).unwrap_err();
-    assert_eq!(refusal, inconsistent(Element::SeqTier, 3));
+    assert_eq!(inconsistent::<usize>(Err(refusal)), (Element::SeqTier, 3));
     assert_eq!(refusal.to_string(), "seq_tier[3] is inconsistent");
     header.operating_points[2].idc = 4096;
     let refusal = write_sequence_header(&header, &mut out).unwrap_err();
@@ -528,13 +550,21 @@ fn payload_is_a_part_of_the_input() {
 
 #[test]
 fn refusals_are_errors_in_words() {
-    let error: Box<dyn std::error::Error> = Box::new(Refusal::Short { needed: 11 });
+    let refusal = write_sequence_header(&still(), &mut [0; 5]).unwrap_err();
+    let error: Box<dyn std::error::Error> = Box::new(refusal);
     assert_eq!(
         error.to_string(),
-        "the buffer is too short: 11 bytes are needed"
+        "the buffer is too short: 6 bytes are needed"
     );
+    let delimiter = obu(OBU_TEMPORAL_DELIMITER);
+    let bare = ObuHeader {
+        has_size_field: false,
+        ..delimiter
+    };
     assert_eq!(
-        Refusal::Short { needed: 1 }.to_string(),
+        write_temporal_delimiter(&bare, &mut [])
+            .unwrap_err()
+            .to_string(),
         "the buffer is too short: 1 byte is needed"
     );
     assert_eq!(
@@ -542,4 +572,30 @@ fn refusals_are_errors_in_words() {
         Some("OrderHintBits")
     );
     assert_eq!(Element::from_number(47), None);
+}
+
+#[test]
+fn video_to_start_from() {
+    let mut out = [0; 64];
+    for size in [1, 2, 3, 255, 256, 257, 1920, 65535, 65536] {
+        for depth in [8, 10, 12] {
+            let header = SequenceHeaderObu::video(size, 65537 - size, depth);
+            assert_eq!(header.max_frame_width_minus_1 + 1, size);
+            assert_eq!(header.max_frame_height_minus_1 + 1, 65537 - size);
+            let length = write_sequence_header(&header, &mut out).unwrap();
+            assert_eq!(read_sequence_header(&out[..length]), Ok(header));
+        }
+    }
+    for (width, height, depth) in [(0, 1, 8), (1, 65537, 8), (u32::MAX, 1, 8), (1, 1, 9)] {
+        let header = SequenceHeaderObu::video(width, height, depth);
+        assert!(write_sequence_header(&header, &mut out).is_err());
+    }
+    let mut header = SequenceHeaderObu::video(1920, 1080, 8);
+    header.operating_points[0].seq_level_idx = 8;
+    assert_eq!(header, full());
+}
+
+#[test]
+fn the_library_is_of_this_version() {
+    assert_eq!(version(), VERSION);
 }
