@@ -21,14 +21,14 @@ use Rattle.sequence.specs.declared.group.Timing.{Timing}
 use Rattle.sequence.specs.declared.group.Points.{Points}
 use Rattle.sequence.specs.declared.group.FrameSize.{FrameSize}
 use Rattle.sequence.specs.declared.group.FrameIds.{FrameIds}
-use Rattle.sequence.specs.Fields.{GeneralTable, ToolsTable, BodyTable, SequenceTable}
+use Rattle.sequence.specs.Fields.{GeneralTable, ToolsAndColorTable, BodyTable, SequenceTable}
 use Rattle.sequence.specs.Optional.{f-if, flag-if}
 use Rattle.sequence.specs.Timing.{ticks-per-picture, timing-info, decoder-model-info, timing-info-if, decoder-model-info-if, timing, reduced-timing}
 use Rattle.sequence.specs.Points.{operating-parameters-info, point-model, point-delay, point-rest, operating-point, no-point, operating-points, points, reduced-delay, reduced-point-rest, reduced-point, reduced-points}
 use Rattle.sequence.specs.Frame.{max-frame-size, frame-size-fields, frame-size, frame-ids}
 use Rattle.sequence.specs.Tools.{block-tools, hint-tools, choice, no-choice, integer-mv, hint-bits, motion-tools, order-tools, full-tools, reduced-motion-tools, reduced-order-tools, reduced-tools, inter-tools, filter-tools}
 use Rattle.sequence.specs.Color.{color-values, color-description, sampling, fixed-sampling, mono-planes, srgb-planes, other-planes, planes, color-rest, color-config}
-use Rattle.sequence.specs.Sequence.{profile, full-general, reduced-general, general, grain, tools, body, sequence-header-obu}
+use Rattle.sequence.specs.Sequence.{profile, full-general, reduced-general, general, color-and-grain, tools-and-color, body, sequence-header-obu}
 use Rattle.sequence.proofs.Laws.{timing-law, frame-size-law}
 
 -- what a walk wrote, and what two did
@@ -113,9 +113,9 @@ unfolding frame-ids flag-if via _▷_ choose select absent f flag inferredFlag b
 ids-bound reduced v = lit≤ tt
 
 -- the tools and the colour
-tools-bound : (seq-profile : ℕ) (reduced : Bool) (v : ToolsTable) → bound (tools seq-profile reduced .enc v) ≤ 200
-unfolding tools block-tools inter-tools reduced-tools reduced-order-tools reduced-motion-tools full-tools order-tools motion-tools hint-tools choice no-choice integer-mv hint-bits filter-tools grain color-config color-rest color-description color-values planes mono-planes srgb-planes other-planes sampling fixed-sampling f-if flag-if via _▷_ choose select absent f flag inferred inferredFlag bound
-tools-bound seq-profile reduced v = lit≤ tt
+tools-and-color-bound : (seq-profile : ℕ) (reduced : Bool) (v : ToolsAndColorTable) → bound (tools-and-color seq-profile reduced .enc v) ≤ 200
+unfolding tools-and-color block-tools inter-tools reduced-tools reduced-order-tools reduced-motion-tools full-tools order-tools motion-tools hint-tools choice no-choice integer-mv hint-bits filter-tools color-and-grain color-config color-rest color-description color-values planes mono-planes srgb-planes other-planes sampling fixed-sampling f-if flag-if via _▷_ choose select absent f flag inferred inferredFlag bound
+tools-and-color-bound seq-profile reduced v = lit≤ tt
 
 body-few : (seq-profile : ℕ) (reduced : Bool) (v : BodyTable) (x : Bits) → run (body seq-profile reduced .enc v) ≡ wrote x → length x ≤ 3548
 unfolding body _▷_
@@ -126,9 +126,9 @@ body-few seq-profile reduced v x e =
           (λ y q. general-few reduced (v .0) y q)
           (λ y q z u. two (frame-size .enc (v .1 .0)) _ 40 208 u
           (λ y q. size-few (v .1 .0) y q)
-          (λ y q z u. two (frame-ids reduced .enc (v .1 .1 .0)) (tools seq-profile reduced .enc (v .1 .1 .1)) 8 200 u
+          (λ y q z u. two (frame-ids reduced .enc (v .1 .1 .0)) (tools-and-color seq-profile reduced .enc (v .1 .1 .1)) 8 200 u
           (λ y q. omega (arith, part _ q, ids-bound reduced (v .1 .1 .0)))
-          (λ y q z u. omega (arith, part _ u, tools-bound seq-profile reduced (v .1 .1 .1))))),
+          (λ y q z u. omega (arith, part _ u, tools-and-color-bound seq-profile reduced (v .1 .1 .1))))),
     )
 
 table-few : (v : SequenceTable) (x : Bits) → run (sequence-header-obu .enc v) ≡ wrote x → length x ≤ 3553

@@ -17,7 +17,7 @@ use Rattle.sequence.specs.Points.{operating-parameters-info, point-model
 use Rattle.sequence.specs.Frame.{max-frame-size, frame-size-fields, frame-size, frame-ids}
 use Rattle.sequence.specs.Tools.{block-tools, hint-tools, choice, no-choice, integer-mv, hint-bits, motion-tools, order-tools, full-tools, reduced-motion-tools, reduced-order-tools, reduced-tools, inter-tools, filter-tools}
 use Rattle.sequence.specs.Color.{color-values, color-description, sampling, fixed-sampling, mono-planes, srgb-planes, other-planes, planes, color-rest, color-config}
-use Rattle.sequence.specs.Sequence.{profile, full-general, reduced-general, general, grain, tools, body, sequence-header-obu}
+use Rattle.sequence.specs.Sequence.{profile, full-general, reduced-general, general, color-and-grain, tools-and-color, body, sequence-header-obu}
 
 pub f-if-law : (coded : Bool) (n : ℕ) (e : ℕ) (i : ℕ) (x : ℕ) → Lawful strict (f-if coded n e i x)
 unfolding f-if
@@ -233,17 +233,17 @@ pub general-law : (reduced : Bool) → Lawful strict (general reduced)
 unfolding general
 general-law reduced = search (codec-laws, full-general-law, reduced-general-law) depth 14
 
-pub grain-law : (profile : ℕ) → Lawful strict (grain profile)
-unfolding grain
-grain-law profile = search (codec-laws, color-config-law) depth 14
+pub color-and-grain-law : (profile : ℕ) → Lawful strict (color-and-grain profile)
+unfolding color-and-grain
+color-and-grain-law profile = search (codec-laws, color-config-law) depth 14
 
-pub tools-law : (profile : ℕ) (reduced : Bool) → Lawful strict (tools profile reduced)
-unfolding tools
-tools-law profile reduced = search (codec-laws, block-tools-law, inter-tools-law, filter-tools-law, grain-law) depth 14
+pub tools-and-color-law : (profile : ℕ) (reduced : Bool) → Lawful strict (tools-and-color profile reduced)
+unfolding tools-and-color
+tools-and-color-law profile reduced = search (codec-laws, block-tools-law, inter-tools-law, filter-tools-law, color-and-grain-law) depth 14
 
 pub body-law : (profile : ℕ) (reduced : Bool) → Lawful strict (body profile reduced)
 unfolding body
-body-law profile reduced = search (codec-laws, frame-size-law, frame-ids-law, general-law, tools-law) depth 14
+body-law profile reduced = search (codec-laws, frame-size-law, frame-ids-law, general-law, tools-and-color-law) depth 14
 
 pub sequence-header-obu-law : Lawful strict sequence-header-obu
 unfolding sequence-header-obu

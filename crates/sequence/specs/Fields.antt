@@ -345,32 +345,32 @@ color-config-in = λ (high, (twelve, (mono, (description, planes)))). record {
 }
 
 -- The whole of 5.5.1, and the record: an OBU header and that.
-abbrev pub GrainTable : Type 0
-GrainTable = ColorConfig × Bool
+abbrev pub ColorAndGrainTable : Type 0
+ColorAndGrainTable = ColorConfig × Bool
 
-abbrev pub ToolsTable : Type 0
-ToolsTable = BlockTools × (InterTools × (FilterTools × GrainTable))
+abbrev pub ToolsAndColorTable : Type 0
+ToolsAndColorTable = BlockTools × (InterTools × (FilterTools × ColorAndGrainTable))
 
 abbrev pub GeneralTable : Type 0
 GeneralTable = Timing × Points
 
 abbrev pub BodyTable : Type 0
-BodyTable = GeneralTable × (FrameSize × (FrameIds × ToolsTable))
+BodyTable = GeneralTable × (FrameSize × (FrameIds × ToolsAndColorTable))
 
 abbrev pub SequenceTable : Type 0
 SequenceTable = ℕ × (Bool × (Bool × BodyTable))
 
-abbrev pub grain-out : SequenceHeaderObu → GrainTable
-grain-out h = (h .«color_config», h .«film_grain_params_present»)
+abbrev pub color-and-grain-out : SequenceHeaderObu → ColorAndGrainTable
+color-and-grain-out h = (h .«color_config», h .«film_grain_params_present»)
 
-abbrev pub tools-out : SequenceHeaderObu → ToolsTable
-tools-out h = (block-tools-of h, (inter-tools-of h, (filter-tools-of h, grain-out h)))
+abbrev pub tools-and-color-out : SequenceHeaderObu → ToolsAndColorTable
+tools-and-color-out h = (block-tools-of h, (inter-tools-of h, (filter-tools-of h, color-and-grain-out h)))
 
 abbrev pub general-out : SequenceHeaderObu → GeneralTable
 general-out h = (timing-of h, points-of h)
 
 abbrev pub body-out : SequenceHeaderObu → BodyTable
-body-out h = (general-out h, (frame-size-of h, (frame-ids-of h, tools-out h)))
+body-out h = (general-out h, (frame-size-of h, (frame-ids-of h, tools-and-color-out h)))
 
 abbrev pub sequence-out : SequenceHeaderObu → SequenceTable
 sequence-out h = (h .«seq_profile», (h .«still_picture», (h .«reduced_still_picture_header», body-out h)))

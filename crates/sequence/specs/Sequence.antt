@@ -7,7 +7,7 @@ use Rattle.bits.specs.declared.answer.Refusal.the-variants.{Inconsistent}
 use Rattle.bits.specs.Elements.{seq-profile}
 use Rattle.obu.specs.Obu.{obu}
 use Rattle.sequence.specs.declared.record.SequenceHeaderObu.{SequenceHeaderObu}
-use Rattle.sequence.specs.Fields.{GeneralTable, GrainTable, ToolsTable, BodyTable, SequenceTable, record-out, record-in}
+use Rattle.sequence.specs.Fields.{GeneralTable, ColorAndGrainTable, ToolsAndColorTable, BodyTable, SequenceTable, record-out, record-in}
 use Rattle.sequence.specs.Timing.{timing, reduced-timing}
 use Rattle.sequence.specs.Points.{points, reduced-points}
 use Rattle.sequence.specs.Frame.{frame-size, frame-ids}
@@ -29,18 +29,18 @@ unfoldable pub general : Bool → Codec GeneralTable
 general reduced = choose reduced reduced-general full-general
 
 -- from the colour on: color_config, film_grain_params_present
-unfoldable pub grain : ℕ → Codec GrainTable
-grain profile =
+unfoldable pub color-and-grain : ℕ → Codec ColorAndGrainTable
+color-and-grain profile =
     color-config profile ▷ λ _.
     flag
 
 -- from the tools on
-unfoldable pub tools : ℕ → Bool → Codec ToolsTable
-tools profile reduced =
+unfoldable pub tools-and-color : ℕ → Bool → Codec ToolsAndColorTable
+tools-and-color profile reduced =
     block-tools ▷ λ _.
     inter-tools reduced ▷ λ _.
     filter-tools ▷ λ _.
-    grain profile
+    color-and-grain profile
 
 -- all behind the first three fields
 unfoldable pub body : ℕ → Bool → Codec BodyTable
@@ -48,7 +48,7 @@ body profile reduced =
     general reduced ▷ λ _.
     frame-size ▷ λ _.
     frame-ids reduced ▷ λ _.
-    tools profile reduced
+    tools-and-color profile reduced
 
 -- The whole.
 -- Difference (docs/DIFFERENCES.md, row 17): the standard demands still_picture with the reduced header. As in the crate, that is not checked.

@@ -29,9 +29,9 @@ ghost use mathlib.Core.List.{_++_};
 ghost use Prim.Native.Nat.{_+_, _≤_};
 ghost use lib.ListN.{length};
 ghost use Rattle.bits.specs.Walk.{Walked, _⊕_};
-ghost use Rattle.sequence.specs.Fields.{general-out, grain-out, tools-out, body-out, sequence-out};
+ghost use Rattle.sequence.specs.Fields.{general-out, color-and-grain-out, tools-and-color-out, body-out, sequence-out};
 ghost use Rattle.sequence.specs.Timing.{decoder-model-info-if};
-ghost use Rattle.sequence.specs.Sequence.{profile, full-general, reduced-general, general, grain, tools, body, sequence-header-obu, sequence-header};
+ghost use Rattle.sequence.specs.Sequence.{profile, full-general, reduced-general, general, color-and-grain, tools-and-color, body, sequence-header-obu, sequence-header};
 ghost use Rattle.obu.specs.Frame.{bitCount, trailing-bits};
 ghost use Rattle.obu.specs.Header.{obu-header};
 ghost use Rattle.obu.specs.Delimiter.{octets};
@@ -88,8 +88,8 @@ fn general(out: &mut [u8], c: Cursor, reduced: bool, h: SequenceHeaderObu) -> St
     full_general(out, c, h)
 }
 
-fn grain(out: &mut [u8], c: Cursor, profile: u32, h: SequenceHeaderObu) -> Step
-    ensures { λ s. ⌜ Walked (grain profile .enc (grain-out h)) c (now (out .entry)) s (now (out .exit)) ⌝ }
+fn color_and_grain(out: &mut [u8], c: Cursor, profile: u32, h: SequenceHeaderObu) -> Step
+    ensures { λ s. ⌜ Walked (color-and-grain profile .enc (color-and-grain-out h)) c (now (out .entry)) s (now (out .exit)) ⌝ }
 {
     let s = color_config(out, c, profile, h.color_config);
     let Step::Next(c) = s else {
@@ -98,8 +98,14 @@ fn grain(out: &mut [u8], c: Cursor, profile: u32, h: SequenceHeaderObu) -> Step
     flag(out, c, h.film_grain_params_present)
 }
 
-fn tools(out: &mut [u8], c: Cursor, profile: u32, reduced: bool, h: SequenceHeaderObu) -> Step
-    ensures { λ s. ⌜ Walked (tools profile reduced .enc (tools-out h)) c (now (out .entry)) s (now (out .exit)) ⌝ }
+fn tools_and_color(
+    out: &mut [u8],
+    c: Cursor,
+    profile: u32,
+    reduced: bool,
+    h: SequenceHeaderObu,
+) -> Step
+    ensures { λ s. ⌜ Walked (tools-and-color profile reduced .enc (tools-and-color-out h)) c (now (out .entry)) s (now (out .exit)) ⌝ }
 {
     let s = block_tools(out, c, h);
     let Step::Next(c) = s else {
@@ -113,7 +119,7 @@ fn tools(out: &mut [u8], c: Cursor, profile: u32, reduced: bool, h: SequenceHead
     let Step::Next(c) = s else {
         return s;
     };
-    grain(out, c, profile, h)
+    color_and_grain(out, c, profile, h)
 }
 
 fn body(out: &mut [u8], c: Cursor, profile: u32, reduced: bool, h: SequenceHeaderObu) -> Step
@@ -131,7 +137,7 @@ fn body(out: &mut [u8], c: Cursor, profile: u32, reduced: bool, h: SequenceHeade
     let Step::Next(c) = s else {
         return s;
     };
-    tools(out, c, profile, reduced, h)
+    tools_and_color(out, c, profile, reduced, h)
 }
 
 pub fn sequence_header_obu(out: &mut [u8], c: Cursor, h: SequenceHeaderObu) -> Step

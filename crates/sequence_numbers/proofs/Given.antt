@@ -16,7 +16,7 @@ use Rattle.sequence.specs.Fields.{decoder-model-info-out, decoder-model-info-in
 use Rattle.sequence.specs.Timing.{decoder-model-info, no-timing-info, no-decoder-model-info, decoder-model-info-if, timing, reduced-timing}
 use Rattle.sequence.specs.Frame.{counted, frame-size-fields, frame-size}
 use Rattle.sequence.specs.Tools.{hint-bits, motion-tools, order-tools, full-tools, reduced-motion-tools, reduced-order-tools, reduced-tools, inter-tools}
-use Rattle.sequence.specs.Sequence.{full-general, reduced-general, general, tools, body, sequence-header-obu, sequence-header}
+use Rattle.sequence.specs.Sequence.{full-general, reduced-general, general, tools-and-color, body, sequence-header-obu, sequence-header}
 use Rattle.sequence_numbers.specs.Held.{held-model, held-header}
 use Rattle.numbers.proofs.Alike.{Alike, itself, both, chosen, passing, nothing, through}
 use Rattle.numbers.proofs.Near.{Near, as-is, past, min-near, field}
@@ -71,7 +71,7 @@ module _ (h : SequenceHeaderObu) (width : h .«max_frame_width_minus_1» < 2 ^ 3
       (through inter-tools-out inter-tools-in (both itself (λ _. both itself (λ _. both itself (λ _. both itself (λ _. both itself (λ order-hint. both itself (λ _. both itself (λ _. both itself (λ _. hints order-hint))))))))))
 
   bodies : (profile : ℕ) (reduced : Bool) → Alike (body profile reduced) (body-out held) (body-out h)
-  unfolding body tools
+  unfolding body tools-and-color
   bodies profile reduced = both (generals reduced) (λ _. both sizes (λ _. both itself (λ _. both itself (λ _. both (inter reduced) (λ _. itself)))))
 
   header : Alike sequence-header-obu (sequence-out held) (sequence-out h)

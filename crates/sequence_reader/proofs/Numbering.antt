@@ -76,16 +76,16 @@ color =
     (any-both flag-stands (any-both flag-stands (any-both flag-stands (any-both (any-struct fields.color-description-out fields.color-description-in (λ _. refl) (any-both flag-stands (any-both word-stands (any-both word-stands word-stands))))
     (any-struct fields.planes-out fields.planes-in (λ _. refl) (any-both flag-stands (any-both (any-struct fields.sampling-out fields.sampling-in (λ _. refl) (any-both flag-stands (any-both flag-stands word-stands))) flag-stands)))))))
 
-tools : Stands Any row.tools
-tools =
+tools-and-color : Stands Any row.tools-and-color
+tools-and-color =
     any-both (any-struct fields.block-tools-out fields.block-tools-in (λ _. refl) three)
     (any-both (any-struct fields.inter-tools-out fields.inter-tools-in (λ _. refl) (any-both flag-stands (any-both flag-stands (any-both flag-stands order-tools))))
     (any-both (any-struct fields.filter-tools-out fields.filter-tools-in (λ _. refl) three) (any-both color flag-stands)))
 
-frame : Stands Any (row.frame-size & row.frame-ids & row.tools)
+frame : Stands Any (row.frame-size & row.frame-ids & row.tools-and-color)
 frame =
     any-both (any-struct fields.frame-size-out fields.frame-size-in (λ _. refl) four)
-    (any-both (any-struct fields.frame-ids-out fields.frame-ids-in (λ _. refl) (any-both flag-stands (any-both word-stands word-stands))) tools)
+    (any-both (any-struct fields.frame-ids-out fields.frame-ids-in (λ _. refl) (any-both flag-stands (any-both word-stands word-stands))) tools-and-color)
 
 obu-header : Stands Any row.obu-header
 obu-header =

@@ -14,7 +14,7 @@ use Rattle.obu.specs.Obu.{readObu, obu}
 use Rattle.obu.specs.Demand3.{read}
 use Rattle.sequence.specs.declared.record.SequenceHeaderObu.{SequenceHeaderObu}
 use Rattle.sequence.specs.Fields.{sequence-out}
-use Rattle.sequence.specs.Sequence.{grain, tools, body, sequence-header-obu, sequence-header}
+use Rattle.sequence.specs.Sequence.{color-and-grain, tools-and-color, body, sequence-header-obu, sequence-header}
 use Rattle.sequence_reader.specs.declared.read.Outcome.{Outcome}
 use Rattle.sequence_reader.specs.declared.read.Outcome.the-variants.{Done}
 use Rattle.sequence_reader.specs.Layouts.{numbers-of}
@@ -27,7 +27,7 @@ use Rattle.sequence_reader.proofs.ToolSetting.{tools-sets, color-sets}
 
 -- 5.5.1, whole
 sequence-sets : (h : SequenceHeaderObu) → Found (obu-header 1) (h .«obu_header») → Found sequence-header-obu (sequence-out h) → Sets h
-unfolding sequence-header-obu body tools grain
+unfolding sequence-header-obu body tools-and-color color-and-grain
 sequence-sets h o s =
     let b = second _ _ (second _ _ (second _ _ s)) in
     let g = general-sets h (first _ _ b) in

@@ -118,11 +118,14 @@ color-config = struct fields.color-config-out fields.color-config-in (flag & fla
 abbrev pub general : Row fields.GeneralTable
 general = timing & points
 
-abbrev pub tools : Row fields.ToolsTable
-tools = block-tools & inter-tools & filter-tools & color-config & flag
+abbrev pub color-and-grain : Row fields.ColorAndGrainTable
+color-and-grain = color-config & flag
+
+abbrev pub tools-and-color : Row fields.ToolsAndColorTable
+tools-and-color = block-tools & inter-tools & filter-tools & color-and-grain
 
 abbrev pub body : Row fields.BodyTable
-body = general & frame-size & frame-ids & tools
+body = general & frame-size & frame-ids & tools-and-color
 
 abbrev pub sequence : Row fields.SequenceTable
 sequence = word & flag & flag & body

@@ -15,8 +15,7 @@ use fill::f;
 use fill::flag;
 use fill::mark;
 ghost use Rattle.fill.specs.Fills.{Fills, whole};
-ghost use Rattle.fill.specs.Rows.{flag, _&_};
-ghost use Rattle.sequence.specs.Sequence.{profile, grain, tools, body, sequence-header-obu};
+ghost use Rattle.sequence.specs.Sequence.{profile, color-and-grain, tools-and-color, body, sequence-header-obu};
 ghost use Rattle.sequence_reader.specs.Layouts as row;
 
 fn profile(s: &[u8], c: Cursor, v: &mut u32) -> Step
@@ -32,8 +31,8 @@ fn profile(s: &[u8], c: Cursor, v: &mut u32) -> Step
     Step::Refused(Refusal::Inconsistent(SEQ_PROFILE, 0))
 }
 
-fn grain(s: &[u8], c: Cursor, profile: u32, n: &mut [u32; 347]) -> Step
-    ensures { λ r. ⌜ Fills ((row.color-config & flag) .from 334) (grain profile .dec) (now (s .entry)) c r (now (n .entry)) (now (n .exit)) ⌝ }
+fn color_and_grain(s: &[u8], c: Cursor, profile: u32, n: &mut [u32; 347]) -> Step
+    ensures { λ r. ⌜ Fills (row.color-and-grain .from 334) (color-and-grain profile .dec) (now (s .entry)) c r (now (n .entry)) (now (n .exit)) ⌝ }
 {
     let t = color_config(s, c, profile, n);
     let Step::Next(c) = t else {
@@ -42,8 +41,8 @@ fn grain(s: &[u8], c: Cursor, profile: u32, n: &mut [u32; 347]) -> Step
     mark(s, c, &mut n[place::FILM_GRAIN_PARAMS_PRESENT])
 }
 
-fn tools(s: &[u8], c: Cursor, profile: u32, reduced: bool, n: &mut [u32; 347]) -> Step
-    ensures { λ r. ⌜ Fills (row.tools .from 315) (tools profile reduced .dec) (now (s .entry)) c r (now (n .entry)) (now (n .exit)) ⌝ }
+fn tools_and_color(s: &[u8], c: Cursor, profile: u32, reduced: bool, n: &mut [u32; 347]) -> Step
+    ensures { λ r. ⌜ Fills (row.tools-and-color .from 315) (tools-and-color profile reduced .dec) (now (s .entry)) c r (now (n .entry)) (now (n .exit)) ⌝ }
 {
     let t = block_tools(s, c, n);
     let Step::Next(c) = t else {
@@ -57,7 +56,7 @@ fn tools(s: &[u8], c: Cursor, profile: u32, reduced: bool, n: &mut [u32; 347]) -
     let Step::Next(c) = t else {
         return t;
     };
-    grain(s, c, profile, n)
+    color_and_grain(s, c, profile, n)
 }
 
 fn body(s: &[u8], c: Cursor, profile: u32, reduced: bool, n: &mut [u32; 347]) -> Step
@@ -75,7 +74,7 @@ fn body(s: &[u8], c: Cursor, profile: u32, reduced: bool, n: &mut [u32; 347]) ->
     let Step::Next(c) = t else {
         return t;
     };
-    tools(s, c, profile, reduced, n)
+    tools_and_color(s, c, profile, reduced, n)
 }
 
 pub fn sequence_header_obu(s: &[u8], c: Cursor, n: &mut [u32; 347]) -> Step

@@ -24,7 +24,7 @@ use Rattle.sequence.specs.Points.{point-model, point-delay, point-rest, operati
 use Rattle.sequence.specs.Frame.{max-frame-size, frame-size-fields, frame-size, frame-ids}
 use Rattle.sequence.specs.Tools.{block-tools, hint-tools, choice, integer-mv, hint-bits, motion-tools, order-tools, full-tools, inter-tools, filter-tools}
 use Rattle.sequence.specs.Color.{color-values, color-description, sampling, other-planes, planes, color-rest, color-config}
-use Rattle.sequence.specs.Sequence.{profile, full-general, general, grain, tools, body, sequence-header-obu, sequence-header}
+use Rattle.sequence.specs.Sequence.{profile, full-general, general, color-and-grain, tools-and-color, body, sequence-header-obu, sequence-header}
 use Rattle.sequence.proofs.Counts.{few}
 use Rattle.starter.specs.Video.{minus-1, bits-minus-1, video}
 use Rattle.starter.proofs.TopBits as top
@@ -68,13 +68,13 @@ payload-end w h d = run (sequence-header-obu .enc (sequence-out (video w h d))) 
 
 module _ (w h d : ℕ) where
   pub depth : Depth d → size-end w h d ≡ done → payload-end w h d ≡ done
-  unfolding video run join _▷_ choose select via allowed within f flag absent inferred inferredFlag array f-if flag-if timing-info-if decoder-model-info-if timing point-model point-delay point-rest operating-point operating-points points frame-ids block-tools hint-tools choice integer-mv hint-bits motion-tools order-tools full-tools inter-tools filter-tools color-values color-description sampling other-planes planes color-rest color-config profile full-general general grain tools body sequence-header-obu
+  unfolding video run join _▷_ choose select via allowed within f flag absent inferred inferredFlag array f-if flag-if timing-info-if decoder-model-info-if timing point-model point-delay point-rest operating-point operating-points points frame-ids block-tools hint-tools choice integer-mv hint-bits motion-tools order-tools full-tools inter-tools filter-tools color-values color-description sampling other-planes planes color-rest color-config profile full-general general color-and-grain tools-and-color body sequence-header-obu
   depth (inl p) e = rw (payload-end, p, e)
   depth (inr (inl p)) e = rw (payload-end, p, e)
   depth (inr (inr p)) e = rw (payload-end, p, e)
 
   pub no-depth : (Depth d → ⊥) → size-end w h d ≡ done → payload-end w h d ≡ refused (Inconsistent twelve-bit 0)
-  unfolding video run join _▷_ choose select via allowed within f flag absent inferred inferredFlag array f-if flag-if timing-info-if decoder-model-info-if timing point-model point-delay point-rest operating-point operating-points points frame-ids block-tools hint-tools choice integer-mv hint-bits motion-tools order-tools full-tools inter-tools filter-tools color-values color-description sampling other-planes planes color-rest color-config profile full-general general grain tools body sequence-header-obu
+  unfolding video run join _▷_ choose select via allowed within f flag absent inferred inferredFlag array f-if flag-if timing-info-if decoder-model-info-if timing point-model point-delay point-rest operating-point operating-points points frame-ids block-tools hint-tools choice integer-mv hint-bits motion-tools order-tools full-tools inter-tools filter-tools color-values color-description sampling other-planes planes color-rest color-config profile full-general general color-and-grain tools-and-color body sequence-header-obu
   no-depth n e = rw (payload-end, ne-eqb d 8 (λ p. n (inl p)), ne-eqb d 10 (λ p. n (inr (inl p))), ne-eqb d 12 (λ p. n (inr (inr p))), e)
 
   pub no-size : (r : Refusal) → size-end w h d ≡ refused r → payload-end w h d ≡ refused r
@@ -107,7 +107,7 @@ module _ (w h d : ℕ) where
 -- What is read back is the record: each field that is neither coded nor checked is 0.
 module _ (w h d : ℕ) where
   pub all-coded : Depth d → sequence-header .coded (video w h d) ≡ video w h d
-  unfolding video _▷_ choose select via allowed within checked f flag zeros absent inferred inferredFlag array f-if flag-if timing-info-if decoder-model-info-if timing point-model point-delay point-rest operating-point operating-points points max-frame-size frame-size-fields frame-size frame-ids block-tools hint-tools choice integer-mv hint-bits motion-tools order-tools full-tools inter-tools filter-tools color-values color-description sampling other-planes planes color-rest color-config profile full-general general grain tools body sequence-header-obu sequence-header obu expected-type header-end header-table obu-header
+  unfolding video _▷_ choose select via allowed within checked f flag zeros absent inferred inferredFlag array f-if flag-if timing-info-if decoder-model-info-if timing point-model point-delay point-rest operating-point operating-points points max-frame-size frame-size-fields frame-size frame-ids block-tools hint-tools choice integer-mv hint-bits motion-tools order-tools full-tools inter-tools filter-tools color-values color-description sampling other-planes planes color-rest color-config profile full-general general color-and-grain tools-and-color body sequence-header-obu sequence-header obu expected-type header-end header-table obu-header
   all-coded (inl p) = rw p
   all-coded (inr (inl p)) = rw p
   all-coded (inr (inr p)) = rw p

@@ -33,7 +33,7 @@ use Rattle.sequence.specs.Points.{operating-parameters-info, point-model, point
 use Rattle.sequence.specs.Frame.{max-frame-size, frame-size-fields, frame-size, frame-ids}
 use Rattle.sequence.specs.Tools.{block-tools, hint-tools, choice, no-choice, integer-mv, hint-bits, motion-tools, order-tools, full-tools, reduced-motion-tools, reduced-order-tools, reduced-tools, inter-tools, filter-tools}
 use Rattle.sequence.specs.Color.{color-values, color-description, sampling, fixed-sampling, mono-planes, srgb-planes, other-planes, planes, color-rest, color-config}
-use Rattle.sequence.specs.Sequence.{profile, full-general, reduced-general, general, grain, tools, body, sequence-header-obu, sequence-header}
+use Rattle.sequence.specs.Sequence.{profile, full-general, reduced-general, general, color-and-grain, tools-and-color, body, sequence-header-obu, sequence-header}
 use Rattle.sequence_reader.specs.declared.read.Outcome.{Outcome}
 use Rattle.sequence_reader.specs.declared.read.Outcome.the-variants.{Done as Accepted, Refused}
 use Rattle.sequence_reader.specs.Layouts.{numbers-of}
@@ -118,7 +118,7 @@ given : {w : Walk} {es : List ℕ} → AreBytes es → run w ≡ wrote (bitsOf e
 given E e = record { into = λ buffer B h few. gives _ _ buffer e E B h few }
 
 pub worked : Worked
-unfolding answerFor read readObu readSize readTrailing isTrailing allZero bitsOf toBits bitAt fromBits takeBits _▷_ choose select via allowed within checked f flag zeros absent inferred inferredFlag array merged leb128 leb-step obu obu-header header-table expected-type header-end obu-extension-header f-if flag-if ticks-per-picture timing-info decoder-model-info timing-info-if decoder-model-info-if timing reduced-timing operating-parameters-info point-model point-delay point-rest operating-point operating-points points reduced-delay reduced-point-rest reduced-point reduced-points max-frame-size frame-size-fields frame-size frame-ids block-tools hint-tools choice no-choice integer-mv hint-bits motion-tools order-tools full-tools reduced-motion-tools reduced-order-tools reduced-tools inter-tools filter-tools color-values color-description sampling fixed-sampling mono-planes srgb-planes other-planes planes color-rest color-config profile full-general reduced-general general grain tools body sequence-header-obu sequence-header run join framed obu-size trailing-bits digits read-delta-q diff-uv v-coded v-inferred v-deltas uv-deltas no-uv-deltas three-planes one-plane chroma v-matrix matrices qmatrix quantization-table quantization-params inferredSigned su recode damping secondary strength strengths each-strength on-table cdef-on cdef-off cdef-params zip unit-shift small-shift uvlc unary topBit
+unfolding answerFor read readObu readSize readTrailing isTrailing allZero bitsOf toBits bitAt fromBits takeBits _▷_ choose select via allowed within checked f flag zeros absent inferred inferredFlag array merged leb128 leb-step obu obu-header header-table expected-type header-end obu-extension-header f-if flag-if ticks-per-picture timing-info decoder-model-info timing-info-if decoder-model-info-if timing reduced-timing operating-parameters-info point-model point-delay point-rest operating-point operating-points points reduced-delay reduced-point-rest reduced-point reduced-points max-frame-size frame-size-fields frame-size frame-ids block-tools hint-tools choice no-choice integer-mv hint-bits motion-tools order-tools full-tools reduced-motion-tools reduced-order-tools reduced-tools inter-tools filter-tools color-values color-description sampling fixed-sampling mono-planes srgb-planes other-planes planes color-rest color-config profile full-general reduced-general general color-and-grain tools-and-color body sequence-header-obu sequence-header run join framed obu-size trailing-bits digits read-delta-q diff-uv v-coded v-inferred v-deltas uv-deltas no-uv-deltas three-planes one-plane chroma v-matrix matrices qmatrix quantization-table quantization-params inferredSigned su recode damping secondary strength strengths each-strength on-table cdef-on cdef-off cdef-params zip unit-shift small-shift uvlc unary topBit
 worked = record {
   case-1 = λ t s. given (search needs) (run-plain true t s);
   case-1-without-size = λ t s. given (search needs) (run-plain false t s);

@@ -1,12 +1,12 @@
 use borrow.Author.Needs.{needs}
-use Rattle.sequence.specs.Sequence.{tools}
+use Rattle.sequence.specs.Sequence.{tools-and-color}
 use Rattle.fill.proofs.Filling.{fillings, halts}
-use Rattle.sequence_reader.proofs.body.tools.Statement.{statement}
-use Rattle.sequence_reader.proofs.body.tools.Tie as tie
+use Rattle.sequence_reader.proofs.body.tools_and_color.Statement.{statement}
+use Rattle.sequence_reader.proofs.body.tools_and_color.Tie as tie
 
-pub tools-spec : {M : Type 1} → statement M
-unfolding tools
-tools-spec =
+pub tools-and-color-spec : {M : Type 1} → statement M
+unfolding tools-and-color
+tools-and-color-spec =
     tie.close
     (tie.spec
     (λ c κs. search needs) (λ c. search needs) (λ c. search needs) (λ c. search halts depth 14)
