@@ -9,7 +9,7 @@ use lib.Dec.{ltb, eqb}
 use borrow.Author.Tests.{lt-ltb, le-ltb, eq-eqb, ne-eqb, not-true, not-false}
 use Rattle.bits.specs.Bits.{Bits, from, end}
 use Rattle.bits.specs.Codec.{Codec, Got, got, stop, andThen, choose, absent, inferred, inferredFlag, allowed, checked, via, recode, merged, _▷_, nil}
-use Rattle.bits.specs.Answers.{Result, value, refused, why, made, Form, found, moved, Reads, Said, said, Reading, reading, Tells, tells}
+use Rattle.bits.specs.Answers.{Result, value, refused, why, made, Form, found, moved, Reads, Said, said, Reading, reading, Completes, completes}
 use Rattle.bits.specs.declared.answer.Cursor.{Cursor}
 use Rattle.bits.specs.declared.answer.Refusal.{Refusal}
 use Rattle.bits.proofs.Laws.{stop-got, got-value, got-rest}
@@ -184,8 +184,8 @@ pass t {xs} {c} (said g) h = rw h (reading (record { finds = whole (t .dec (from
 
 -- the rest, left to a function
 pub pass-rest : {G A B : Type 0} {v : Form G B} {make : A → B} {t : Codec A} {xs : List ℕ} {c : Cursor} {g : G} {r : Result B}
-    → Tells v make t xs c g → r ≡ v .view g → Reading make t xs c r
-pass-rest (tells s) h = rw h s
+    → Completes v make t xs c g → r ≡ v .view g → Reading make t xs c r
+pass-rest (completes s) h = rw h s
 
 -- a check that was made before the first bit was written, and that what is read meets
 pub then-checked : {A C : Type 0} (test : A → Bool) (z : Refusal) (t : Codec A) {make : A → C} {xs : List ℕ} {c : Cursor} {r : Result C}
@@ -294,7 +294,7 @@ pub left-remade : {A B : Type 0} {d : Bits → Got B} {xs : List ℕ} {c p : Cur
 left-remade h l = record { rest = λ r s. l .rest r (remade (λ a. sym (h a)) s) }
 
 -- A reading function of up to four steps: `search readings depth 14`
-pub ruleset readings = (then-checked, struct-on, group-on, start, tells, struct, recoded, one-of, on, halt, last, last-no, yes, no, yes-not, no-not, yes-lt, no-lt, yes-eq, no-eq, nothing, known, known-flag, nothing-on, known-on, known-flag-on, pass, pass-rest)
+pub ruleset readings = (then-checked, struct-on, group-on, start, completes, struct, recoded, one-of, on, halt, last, last-no, yes, no, yes-not, no-not, yes-lt, no-lt, yes-eq, no-eq, nothing, known, known-flag, nothing-on, known-on, known-flag-on, pass, pass-rest)
 
 -- with tests that functions make
 pub ruleset readings-by = (readings, on-by, halt-by, last-by, last-no-by, yes-by, no-by)

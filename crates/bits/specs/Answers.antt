@@ -36,8 +36,8 @@ numbered Trailing = plain 7
 numbered Long = plain 8
 
 -- A count goes into a u32, whose largest no walk of a public writer comes near.
-abbrev pub counted : ℕ → ℕ
-counted n = min n 4294967295
+abbrev pub capped : ℕ → ℕ
+capped n = min n 4294967295
 
 -- What a step comes to: a value and the place behind it, or a refusal.
 pub data Result (A : Type 0) : Type 0 where
@@ -140,6 +140,6 @@ pub data Said {G A : Type 0} (v : Form G A) (d : Bits → Got A) (xs : List ℕ)
 pub data Reading {A B : Type 0} (make : A → B) (t : Codec A) (xs : List ℕ) (c : Cursor) (r : Result B) : Type 0 where
   reading : Reads (λ bs. andThen (t .dec bs) (λ a rest. got (make a) rest)) xs c r → Reading make t xs c r
 
--- the contract of a function that reads the rest of a table: what was read before goes into `make`
-pub data Tells {G A B : Type 0} (v : Form G B) (make : A → B) (t : Codec A) (xs : List ℕ) (c : Cursor) (g : G) : Type 0 where
-  tells : Reading make t xs c (v .view g) → Tells v make t xs c g
+-- the contract of a function that reads the rest of a table, and completes the value: what was read before goes into `make`
+pub data Completes {G A B : Type 0} (v : Form G B) (make : A → B) (t : Codec A) (xs : List ℕ) (c : Cursor) (g : G) : Type 0 where
+  completes : Reading make t xs c (v .view g) → Completes v make t xs c g

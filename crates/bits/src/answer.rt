@@ -1,6 +1,6 @@
 // A place in a slice, what each step of a walk answers, and the numbers of document 01.
 ghost use mathlib.Core.Path.{_≡_};
-ghost use Rattle.bits.specs.Answers.{plain, numbered, counted, why, step, number, flag, signed, size};
+ghost use Rattle.bits.specs.Answers.{plain, numbered, capped, why, step, number, flag, signed, size};
 ghost use Rattle.bits.specs.Written.{answerNumbers};
 
 // Places end here, at 2^63.
@@ -124,8 +124,8 @@ fn plain(number: u32) -> Numbered
 }
 
 // n, or the largest u32.
-pub fn counted(n: usize) -> u32
-    ensures { λ r. ⌜ r ≡ counted n ⌝ }
+pub fn capped(n: usize) -> u32
+    ensures { λ r. ⌜ r ≡ capped n ⌝ }
 {
     if n < 4294967295 { n as u32 } else { 4294967295 }
 }

@@ -16,7 +16,7 @@ use Rattle.sequence.specs.Sequence.{sequence-header}
 use Rattle.sequence_reader.specs.declared.read.Part.{Part}
 use Rattle.sequence_reader.specs.declared.read.Outcome.{Outcome}
 use Rattle.sequence_reader.specs.declared.read.Outcome.the-variants.{Done}
-use Rattle.sequence_reader.specs.Reader.{Answer, answerFor, Answers}
+use Rattle.sequence_reader.specs.Reader.{Answered, answerFor, Answers}
 use Rattle.sequence_reader.specs.Payload.{payloadPart}
 use Rattle.sequence_reader.proofs.PayloadParts.{few}
 use Rattle.friscurella.specs.Calls.{answer-of, lent, told, wrote-obu, wrote-part, outcome-numbers, was-read, part-numbers}
@@ -38,7 +38,7 @@ module _ {l : List ℕ} {m : ℕ} {n : Numbered} (tells : (m ≡ n .number) × (
   module _ (xs old : List ℕ) {ns : List ℕ} {o : Outcome} (is : n ≡ outcome-numbers o) where
     pub read-crosses : Answers xs old o ns → lent m l ns ≡ was-read (read sequence-header xs) old
     unfolding answerFor
-    read-crosses e = rw (tells .0, tells .1, is) (ap (λ (a : Answer). told (outcome-numbers (a .outcome)) (a .numbers)) e ∙ go (read sequence-header xs))
+    read-crosses e = rw (tells .0, tells .1, is) (ap (λ (a : Answered). told (outcome-numbers (a .outcome)) (a .numbers)) e ∙ go (read sequence-header xs))
       where
         go : (g : Got SequenceHeaderObu) → told (outcome-numbers (answerFor g old .outcome)) (answerFor g old .numbers) ≡ was-read g old
         go (got h rest) = refl

@@ -7,7 +7,7 @@ use Rattle.bits.specs.Codec.{Codec}
 use Rattle.bits.specs.Lawful.{Grade, strict, Lawful}
 use Rattle.obu.specs.declared.header.ObuHeader.{ObuHeader}
 use Rattle.obu.specs.Header.{obu-header}
-use Rattle.obu.specs.Frame.{framed}
+use Rattle.obu.specs.Framing.{framed}
 use Rattle.obu.specs.Obu.{obu}
 use Rattle.obu.specs.Delimiter.{temporal-delimiter}
 use Rattle.obu.specs.Writer.{written}

@@ -12,7 +12,7 @@ use Rattle.bits.specs.Codes.{leb128, leb-step, tooLong}
 use Rattle.bits.specs.declared.answer.Answer.{Answer}
 use Rattle.obu.specs.declared.header.ObuHeader.{ObuHeader}
 use Rattle.obu.specs.Header.{expected-type, obu-extension-header, header-end, header-table, obu-header}
-use Rattle.obu.specs.Frame.{obu-size}
+use Rattle.obu.specs.Framing.{obu-size}
 use Rattle.obu.specs.Writer.{Writes}
 use Rattle.obu.specs.Delimiter.{temporal-delimiter, delimiterBytes, octets, Tells}
 use Rattle.obu.specs.Demand3.{AreBytes}

@@ -16,7 +16,7 @@ use Rattle.bits.specs.Lawful.{strict, Least, same, shorter}
 use Rattle.bits.specs.declared.answer.Refusal.the-variants.{Size}
 use Rattle.bits.proofs.Laws.{wrote-bits, refused-wrote, stop-got, got-rest, then-inv, cond-inv, join-inv}
 use Rattle.bits.proofs.CodeLaws.{leb-law, leb-id, leb-mono, leb-length, no-bits}
-use Rattle.obu.specs.Frame.{obu-size, readSize, bytesFor, padding, trailing-bits, allZero, isTrailing, readTrailing, admitted, framed}
+use Rattle.obu.specs.Framing.{obu-size, readSize, bytesFor, padding, trailing-bits, allZero, isTrailing, readTrailing, admitted, framed}
 
 false-true : false ≡ true → ⊥
 false-true h = let z : _≡_ {A = ℕ} 0 1 = cc in omega arith

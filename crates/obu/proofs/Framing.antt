@@ -14,7 +14,7 @@ use Rattle.bits.proofs.Laws.{joined}
 use Rattle.bits.proofs.CodeLaws.{leb-total}
 use Rattle.obu.specs.declared.header.ObuHeader.{ObuHeader}
 use Rattle.obu.specs.Header.{expected-type, obu-extension-header, header-end, header-table, obu-header}
-use Rattle.obu.specs.Frame.{obu-size, bytesFor, trailing-bits, bitCount, admitted, framed}
+use Rattle.obu.specs.Framing.{obu-size, bytesFor, trailing-bits, bitCount, admitted, framed}
 use Rattle.obu.specs.Obu.{obu}
 use Rattle.obu.proofs.Frames.{sizeOut, framed-run, tail}
 use Rattle.obu.proofs.Writing.{Few, few-by, few-then}

@@ -20,7 +20,7 @@ use Rattle.obu.specs.declared.read.GotHeader.{GotHeader}
 use Rattle.obu.specs.declared.read.GotHeader.the-variants as H
 use Rattle.obu.specs.Answers.{header}
 use Rattle.obu.specs.Header.{obu-header}
-use Rattle.obu.specs.Frame.{readSize, readTrailing}
+use Rattle.obu.specs.Framing.{readSize, readTrailing}
 use Rattle.obu.specs.Obu.{readObu, obu}
 use Rattle.obu.specs.Demand3.{read}
 use Rattle.obu.proofs.Frames.{tail-end}

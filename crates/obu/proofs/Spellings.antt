@@ -12,7 +12,7 @@ use Rattle.bits.specs.Codes.{leb128}
 use Rattle.bits.specs.Lawful.{strict, Lawful, Least, same, shorter}
 use Rattle.bits.proofs.Laws.{got-value, then-inv, joined, join-inv, least-join}
 use Rattle.obu.specs.Header.{obu-header}
-use Rattle.obu.specs.Frame.{readSize, bytesFor, padding, readTrailing, framed}
+use Rattle.obu.specs.Framing.{readSize, bytesFor, padding, readTrailing, framed}
 use Rattle.obu.specs.Obu.{readObu, Spelling, obu}
 use Rattle.obu.specs.declared.header.ObuHeader.{ObuHeader}
 use Rattle.obu.proofs.Headers.{header-law, header-length, coded-sized, cut}

@@ -17,7 +17,7 @@ use Rattle.bits.specs.declared.answer.Refusal.the-variants.{Short, Long}
 use Rattle.bits.proofs.Places.{length-bitsOf}
 use Rattle.bits.specs.declared.answer.Answer.{Answer}
 use Rattle.bits.specs.declared.answer.Answer.the-variants.{Done, Refused}
-use Rattle.bits.specs.Answers.{counted}
+use Rattle.bits.specs.Answers.{capped}
 use Rattle.bits.specs.Written.{wholeBytes}
 use Rattle.obu.specs.Writer.{answerTo, written, Writes, writes, verdict}
 use Rattle.obu.specs.Delimiter.{octets}
@@ -44,7 +44,7 @@ module _ (es xs : List ℕ) (few : length es ≤ 65536) {a : Answer} (q : a ≡ 
   told : a ≡ answerTo done (length (bitsOf es)) (length xs)
   unfolding verdict
   told =
-      let n : counted (wholeBytes (length es * 8)) ≡ wholeBytes (length es * 8) = omega arith in
+      let n : capped (wholeBytes (length es * 8)) ≡ wholeBytes (length es * 8) = omega arith in
       q ∙ rw (n, length-bitsOf es)
 
   room : {n : ℕ} → a ≡ Done n → (length es ≤ length xs) × (length xs ≤ 65536)

@@ -23,7 +23,7 @@ use Rattle.bits.proofs.Reading.{is, is-not}
 use Rattle.bits.proofs.Numbers.{from-to, toBits-mod}
 use Rattle.bits.proofs.CodeLaws.{no-bits}
 use Rattle.bits.proofs.Places.{length-from, from-end, from-chunk, weight-pow, end-is}
-use Rattle.obu.specs.Frame.{allZero, isTrailing, readTrailing, readSize}
+use Rattle.obu.specs.Framing.{allZero, isTrailing, readTrailing, readSize}
 
 -- Zeros, as bits and as a number
 all-append : (xs ys : Bits) → allZero (xs ++ ys) ≡ (allZero xs && allZero ys)

@@ -20,7 +20,7 @@ use Rattle.bits.proofs.Walking.{answer, bytes, kept, bounded}
 use Rattle.bits.proofs.Storing.{put-beyond}
 use Rattle.bits.specs.declared.answer.Answer.{Answer}
 use Rattle.bits.specs.declared.answer.Answer.the-variants.{Done, Refused}
-use Rattle.bits.specs.Answers.{counted}
+use Rattle.bits.specs.Answers.{capped}
 use Rattle.bits.specs.Written.{wholeBytes, Written}
 use Rattle.obu.specs.Writer.{afterWalk, answerTo, stored, written, Writes, writes, afterStep, verdict}
 use Rattle.obu.proofs.Headers.{cut}
@@ -108,7 +108,7 @@ tells {w} {s = s} len F p = ap (cond (ltb 65536 len) (Refused Long)) (go (run w 
     go done e h =
         let b = ended-few F e in
         let f : forward 0 (length (run w .bits)) ≡ length (run w .bits) = omega arith in
-        let g : counted (wholeBytes (length (run w .bits))) ≡ wholeBytes (length (run w .bits)) = omega arith in
+        let g : capped (wholeBytes (length (run w .bits))) ≡ wholeBytes (length (run w .bits)) = omega arith in
         rw (h, f, g)
     go (refused r) e h = rw h
 

@@ -6,7 +6,7 @@ use Prim.Native.Nat.{ℕ}
 use Rattle.bits.specs.Walk.{Walk, none, field, _⊕_}
 use Rattle.obu.specs.declared.header.ObuHeader.{ObuHeader}
 use Rattle.obu.specs.Header.{obu-header}
-use Rattle.obu.specs.Frame.{obu-size}
+use Rattle.obu.specs.Framing.{obu-size}
 
 unfoldable pub temporal-delimiter : ObuHeader → Walk
 temporal-delimiter h = obu-header 2 .enc h ⊕ obu-size (h .«has_size_field») 0

@@ -1,5 +1,5 @@
 pub mod Header
-pub mod Frame
+pub mod Framing
 pub mod Obu
 pub mod Answers
 pub mod Writer

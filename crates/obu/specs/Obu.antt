@@ -10,7 +10,7 @@ use Rattle.bits.specs.Codec.{Codec, Got, got, andThen}
 use Rattle.bits.specs.Codes.{leb128}
 use Rattle.obu.specs.declared.header.ObuHeader.{ObuHeader}
 use Rattle.obu.specs.Header.{obu-header}
-use Rattle.obu.specs.Frame.{framed, readSize, readTrailing}
+use Rattle.obu.specs.Framing.{framed, readSize, readTrailing}
 
 module _ (t : ℕ) {A : Type 0} (p : Codec A) where
   -- Reading (document 01): the header's refusals come first, then the size's, the payload's, and the tail's.

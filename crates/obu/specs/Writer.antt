@@ -7,7 +7,7 @@ use lib.Dec.{ltb}
 use lib.ListN.{length}
 use Rattle.bits.specs.Bits.{Bits, put}
 use Rattle.bits.specs.Walk.{Walk, End, done, refused, run}
-use Rattle.bits.specs.Answers.{counted}
+use Rattle.bits.specs.Answers.{capped}
 use Rattle.bits.specs.Written.{Written, wholeBytes}
 use Rattle.bits.specs.declared.answer.Answer.{Answer}
 use Rattle.bits.specs.declared.answer.Answer.the-variants.{Done, Refused}
@@ -41,7 +41,7 @@ pub data Writes (w : Walk) (xs : List ℕ) (r : Answer) (ys : List ℕ) : Type 0
 
 abbrev pub afterStep : Step → ℕ → Answer
 afterStep (Halted r) len = Refused r
-afterStep (Next c) len = cond (ltb len (wholeBytes (c .at))) (Refused (Short (counted (wholeBytes (c .at))))) (Done (counted (wholeBytes (c .at))))
+afterStep (Next c) len = cond (ltb len (wholeBytes (c .at))) (Refused (Short (capped (wholeBytes (c .at))))) (Done (capped (wholeBytes (c .at))))
 
 unfoldable pub verdict : Step → ℕ → Answer
 verdict s len = cond (ltb 65536 len) (Refused Long) (afterStep s len)

@@ -2,7 +2,7 @@
 use bits::answer::Answer;
 use bits::answer::Refusal;
 use bits::answer::Step;
-use bits::answer::counted;
+use bits::answer::capped;
 ghost use mathlib.Core.Path.{_≡_};
 ghost use Rattle.obu.specs.Writer.{verdict};
 
@@ -18,9 +18,9 @@ pub fn verdict(s: Step, len: usize) -> Answer
         Step::Next(c) => {
             let n = c.at / 8 + (c.at % 8 + 7) / 8;
             if len < n {
-                return Answer::Refused(Refusal::Short(counted(n)));
+                return Answer::Refused(Refusal::Short(capped(n)));
             }
-            Answer::Done(counted(n))
+            Answer::Done(capped(n))
         }
     }
 }

@@ -22,11 +22,11 @@ ghost use lib.Dec.{eqb};
 ghost use mathlib.Core.Bool.{_&&_};
 ghost use Rattle.bits.specs.Bits.{limit, from, toBits};
 ghost use Rattle.bits.specs.Codec.{zeros};
-ghost use Rattle.bits.specs.Answers.{why, Said, Tells};
+ghost use Rattle.bits.specs.Answers.{why, Said, Completes};
 ghost use Rattle.bits.specs.Answers as form;
 ghost use Rattle.obu.specs.Answers.{header};
 ghost use Rattle.obu.specs.Header.{expected-type, obu-extension-header, header-with, header-end, end-with, obu-header};
-ghost use Rattle.obu.specs.Frame.{readSize, allZero, isTrailing, readTrailing};
+ghost use Rattle.obu.specs.Framing.{readSize, allZero, isTrailing, readTrailing};
 
 // A header was read, and the place behind it.
 pub enum GotHeader {
@@ -79,7 +79,7 @@ fn obu_extension_header(
     extension_flag: bool,
     has_size_field: bool,
 ) -> GotHeader
-    ensures { λ r. ⌜ Tells header (header-with «obu_type» «extension_flag» «has_size_field») obu-extension-header (now (s .entry)) c r ⌝ }
+    ensures { λ r. ⌜ Completes header (header-with «obu_type» «extension_flag» «has_size_field») obu-extension-header (now (s .entry)) c r ⌝ }
 {
     let g = f(s, c, 3);
     let GotNumber::Value(temporal_id, c) = g else {
@@ -107,7 +107,7 @@ fn obu_extension_header(
 
 // The header from obu_has_size_field on.
 fn header_end(s: &[u8], c: Cursor, obu_type: u32, extension_flag: bool) -> GotHeader
-    ensures { λ r. ⌜ Tells header (end-with «obu_type» «extension_flag») (header-end «extension_flag») (now (s .entry)) c r ⌝ }
+    ensures { λ r. ⌜ Completes header (end-with «obu_type» «extension_flag») (header-end «extension_flag») (now (s .entry)) c r ⌝ }
 {
     let b = flag(s, c);
     let GotFlag::Value(has_size_field, c) = b else {

@@ -3,7 +3,7 @@ use crate::header::ObuHeader;
 use bits::answer::Cursor;
 use bits::answer::Refusal;
 use bits::answer::Step;
-use bits::answer::counted;
+use bits::answer::capped;
 use bits::element::OBU_TYPE;
 use bits::element::SPATIAL_ID;
 use bits::element::TEMPORAL_ID;
@@ -13,8 +13,8 @@ use writer::leb128;
 ghost use mathlib.Core.Path.{_≡_};
 ghost use Rattle.bits.specs.Walk.{Walked, field};
 ghost use Rattle.obu.specs.Header.{expected-type, obu-extension-header, extension-of, header-end, end-of, obu-header};
-ghost use Rattle.bits.specs.Answers.{counted};
-ghost use Rattle.obu.specs.Frame.{obu-size, bytesFor, trailing-bits};
+ghost use Rattle.bits.specs.Answers.{capped};
+ghost use Rattle.obu.specs.Framing.{obu-size, bytesFor, trailing-bits};
 
 // A bit that is always 0.
 fn zero(out: &mut [u8], c: Cursor) -> Step
@@ -87,9 +87,9 @@ pub fn obu_header(out: &mut [u8], c: Cursor, h: ObuHeader, t: u32) -> Step
 
 // How many bytes a payload of n bits takes with its trailing bits.
 pub fn payload_bytes(n: usize) -> u32
-    ensures { λ r. ⌜ r ≡ counted (bytesFor n) ⌝ }
+    ensures { λ r. ⌜ r ≡ capped (bytesFor n) ⌝ }
 {
-    counted(n / 8 + 1)
+    capped(n / 8 + 1)
 }
 
 // The size, if flagged.

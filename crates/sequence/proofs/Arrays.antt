@@ -11,7 +11,7 @@ use borrow.Rule.Slice.PartMut.{putMid}
 use Rattle.bits.specs.Bits.{Bits, toBits, bitsOf, put}
 use Rattle.bits.specs.Walk.{Walk, _⊕_, End, done, refused, Out, wrote, after, join, run, ends, stepOf, forward, bound, Walked, walked}
 use Rattle.bits.specs.Codec.{Codec, nil}
-use Rattle.bits.specs.Answers.{counted}
+use Rattle.bits.specs.Answers.{capped}
 use Rattle.bits.specs.Lawful.{strict}
 use Rattle.bits.specs.declared.answer.Cursor.{Cursor}
 use Rattle.bits.specs.declared.answer.Refusal.{Refusal}
@@ -24,7 +24,7 @@ use Rattle.bits.specs.declared.answer.Answer.{Answer}
 use Rattle.bits.specs.declared.answer.Answer.the-variants.{Done, Refused}
 use Rattle.obu.specs.declared.header.ObuHeader.{ObuHeader}
 use Rattle.obu.specs.Header.{obu-header}
-use Rattle.obu.specs.Frame.{obu-size, bytesFor, bitCount, trailing-bits, framed}
+use Rattle.obu.specs.Framing.{obu-size, bytesFor, bitCount, trailing-bits, framed}
 use Rattle.obu.specs.Obu.{obu}
 use Rattle.obu.specs.Delimiter.{octets}
 use Rattle.obu.specs.Demand3.{AreBytes}
@@ -143,7 +143,7 @@ module _ (t : ℕ) {A : Type 0} (p : Codec A) (h : ObuHeader) (v : A) {xs zs us 
       let b = passed (few-by {n = 16} (head-few t h)) (omega arith) g k in
       stopped (after-done _ _ (ap (λ (o : Out). o .end) (b .0)) (framed-end (h .«has_size_field») (p .enc v) (padded-end (p .enc v) (halted d e)))) e q
 
-  pub no-size : (b : Bool) (k n : ℕ) {s : Step} {c : Cursor} {r : Refusal} → k ≡ counted n → Walked (obu-size b k) c us s zs → s ≡ Halted r → Writes (obu t p .enc (h, v)) xs a xs
+  pub no-size : (b : Bool) (k n : ℕ) {s : Step} {c : Cursor} {r : Refusal} → k ≡ capped n → Walked (obu-size b k) c us s zs → s ≡ Halted r → Writes (obu t p .enc (h, v)) xs a xs
   unfolding obu-size run
   no-size b k n m g e =
       let y = size-total b k (omega arith) in
@@ -192,7 +192,7 @@ module _ {A : Type 0} (p : Codec A) (v : A) {ps : List ℕ} {u : Step} {e : Curs
   payload-count F g q = sym (length-take-le (e .at / 8) ps (payload-room F g q))
 
   pub once : (t : ℕ) (h : ObuHeader) {s r : Step} {c d : Cursor} {hs gs xs ys : List ℕ} {a : Answer} (k : ℕ) → Few 3553 (p .enc v) → Walked (obu-header t .enc h) origin (replicate 10 0) s hs → s ≡ Next c → Walked (padded (p .enc v)) origin (replicate 448 0) u ps → u ≡ Next e
-      → k ≡ counted (e .at / 8) → Walked (obu-size (h .«has_size_field») k) c hs r gs → r ≡ Next d → Writes (octets (take (d .at / 8) gs ++ take (e .at / 8) ps)) xs a ys → Writes (obu t p .enc (h, v)) xs a ys
+      → k ≡ capped (e .at / 8) → Walked (obu-size (h .«has_size_field») k) c hs r gs → r ≡ Next d → Writes (octets (take (d .at / 8) gs ++ take (e .at / 8) ps)) xs a ys → Writes (obu t p .enc (h, v)) xs a ys
   once t h k F g i l j b o q w =
       let z = sized-few t h (h .«has_size_field») k in
       let x = passed z (omega arith) (hop g i o) q in

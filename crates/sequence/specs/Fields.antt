@@ -214,7 +214,7 @@ abbrev pub choice-out : Choice → Bool × ℕ
 choice-out x = (x .«seq_choose», x .«seq_force»)
 
 abbrev pub choice-in : Bool × ℕ → Choice
-choice-in = λ (any, force). record { «seq_choose» = any; «seq_force» = force }
+choice-in = λ (choose, force). record { «seq_choose» = choose; «seq_force» = force }
 
 abbrev pub screen-of : SequenceHeaderObu → Choice
 screen-of h = record { «seq_choose» = h .«seq_choose_screen_content_tools»; «seq_force» = h .«seq_force_screen_content_tools» }

@@ -14,7 +14,7 @@ use crate::write_tools::inter_tools;
 use bits::answer::Answer;
 use bits::answer::Cursor;
 use bits::answer::Step;
-use bits::answer::counted;
+use bits::answer::capped;
 use bits::element;
 use obu::answer::verdict;
 use obu::header::ObuHeader;
@@ -32,7 +32,7 @@ ghost use Rattle.bits.specs.Walk.{Walked, _⊕_};
 ghost use Rattle.sequence.specs.Fields.{general-out, color-and-grain-out, tools-and-color-out, body-out, sequence-out};
 ghost use Rattle.sequence.specs.Timing.{decoder-model-info-if};
 ghost use Rattle.sequence.specs.Sequence.{profile, full-general, reduced-general, general, color-and-grain, tools-and-color, body, sequence-header-obu, sequence-header};
-ghost use Rattle.obu.specs.Frame.{bitCount, trailing-bits};
+ghost use Rattle.obu.specs.Framing.{bitCount, trailing-bits};
 ghost use Rattle.obu.specs.Header.{obu-header};
 ghost use Rattle.obu.specs.Delimiter.{octets};
 ghost use Rattle.obu.specs.Writer.{Writes};
@@ -218,7 +218,7 @@ pub fn write_sequence_header(record: SequenceHeaderObu, out: &mut [u8]) -> Answe
         return verdict(s, out.len());
     };
     let n = end.at / 8;
-    let s = obu_size(&mut head, c, record.obu_header.has_size_field, counted(n));
+    let s = obu_size(&mut head, c, record.obu_header.has_size_field, capped(n));
     let Step::Next(c) = s else {
         return verdict(s, out.len());
     };

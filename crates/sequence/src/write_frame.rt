@@ -10,10 +10,10 @@ use writer::fits;
 ghost use Rattle.bits.specs.Walk.{Walked, demand as demanded};
 ghost use Rattle.bits.specs.declared.answer.Refusal.the-variants.{Inconsistent};
 ghost use Rattle.sequence.specs.Fields.{frame-size-of, frame-ids-of};
-ghost use Rattle.sequence.specs.Frame.{max-frame-size, frame-size-fields, counted, frame-size, frame-ids};
+ghost use Rattle.sequence.specs.Frame.{max-frame-size, frame-size-fields, held, frame-size, frame-ids};
 
-fn bits_counted(out: &mut [u8], c: Cursor, bits_minus_1: u8, size: u32, element: u8) -> Step
-    ensures { λ s. ⌜ Walked (demanded (counted «bits_minus_1» size) (Inconsistent element 0)) c (now (out .entry)) s (now (out .exit)) ⌝ }
+fn bits_hold(out: &mut [u8], c: Cursor, bits_minus_1: u8, size: u32, element: u8) -> Step
+    ensures { λ s. ⌜ Walked (demanded (held «bits_minus_1» size) (Inconsistent element 0)) c (now (out .entry)) s (now (out .exit)) ⌝ }
 {
     demand(out, c, fits(size, bits_minus_1 as u32 + 1), element, 0)
 }
@@ -65,11 +65,11 @@ pub fn frame_size(out: &mut [u8], c: Cursor, h: SequenceHeaderObu) -> Step
     let b = h.frame_height_bits_minus_1;
     let width = h.max_frame_width_minus_1;
     let height = h.max_frame_height_minus_1;
-    let s = bits_counted(out, c, a, width, element::FRAME_WIDTH_BITS_MINUS_1);
+    let s = bits_hold(out, c, a, width, element::FRAME_WIDTH_BITS_MINUS_1);
     let Step::Next(c) = s else {
         return s;
     };
-    let s = bits_counted(out, c, b, height, element::FRAME_HEIGHT_BITS_MINUS_1);
+    let s = bits_hold(out, c, b, height, element::FRAME_HEIGHT_BITS_MINUS_1);
     let Step::Next(c) = s else {
         return s;
     };

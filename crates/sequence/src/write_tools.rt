@@ -89,8 +89,8 @@ fn motion_tools(out: &mut [u8], c: Cursor, order_hint: bool, h: SequenceHeaderOb
     let Step::Next(c) = s else {
         return s;
     };
-    let any = h.seq_choose_integer_mv;
-    let s = integer_mv(out, c, screen, any, h.seq_force_integer_mv);
+    let choose = h.seq_choose_integer_mv;
+    let s = integer_mv(out, c, screen, choose, h.seq_force_integer_mv);
     let Step::Next(c) = s else {
         return s;
     };
@@ -138,14 +138,14 @@ fn reduced_motion_tools(out: &mut [u8], c: Cursor, h: SequenceHeaderObu) -> Step
     ensures { λ s. ⌜ Walked (reduced-motion-tools .enc (motion-out h)) c (now (out .entry)) s (now (out .exit)) ⌝ }
 {
     let e = element::SEQ_FORCE_SCREEN_CONTENT_TOOLS;
-    let any = h.seq_choose_screen_content_tools;
-    let s = no_choice(out, c, any, h.seq_force_screen_content_tools, e);
+    let choose = h.seq_choose_screen_content_tools;
+    let s = no_choice(out, c, choose, h.seq_force_screen_content_tools, e);
     let Step::Next(c) = s else {
         return s;
     };
     let e = element::SEQ_FORCE_INTEGER_MV;
-    let any = h.seq_choose_integer_mv;
-    let s = no_choice(out, c, any, h.seq_force_integer_mv, e);
+    let choose = h.seq_choose_integer_mv;
+    let s = no_choice(out, c, choose, h.seq_force_integer_mv, e);
     let Step::Next(c) = s else {
         return s;
     };

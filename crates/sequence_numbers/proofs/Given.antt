@@ -8,13 +8,13 @@ use borrow.Author.Tests.{lt-ltb}
 use Rattle.bits.specs.Walk.{run}
 use Rattle.bits.specs.Codec.{via}
 use Rattle.bits.specs.Elements.{buffer-delay-length-minus-1, frame-width-bits-minus-1, frame-height-bits-minus-1, order-hint-bits-minus-1}
-use Rattle.obu.specs.Frame.{framed}
+use Rattle.obu.specs.Framing.{framed}
 use Rattle.obu.specs.Obu.{obu}
 use Rattle.sequence.specs.declared.record.DecoderModelInfo.{DecoderModelInfo}
 use Rattle.sequence.specs.declared.record.SequenceHeaderObu.{SequenceHeaderObu}
 use Rattle.sequence.specs.Fields.{decoder-model-info-out, decoder-model-info-in, timing-out, timing-in, timing-of, general-out, frame-size-out, frame-size-in, frame-size-of, hint-bits-out, hint-bits-in, hint-bits-of, inter-tools-out, inter-tools-in, inter-tools-of, body-out, sequence-out}
 use Rattle.sequence.specs.Timing.{decoder-model-info, no-timing-info, no-decoder-model-info, decoder-model-info-if, timing, reduced-timing}
-use Rattle.sequence.specs.Frame.{counted, frame-size-fields, frame-size}
+use Rattle.sequence.specs.Frame.{held, frame-size-fields, frame-size}
 use Rattle.sequence.specs.Tools.{hint-bits, motion-tools, order-tools, full-tools, reduced-motion-tools, reduced-order-tools, reduced-tools, inter-tools}
 use Rattle.sequence.specs.Sequence.{full-general, reduced-general, general, tools-and-color, body, sequence-header-obu, sequence-header}
 use Rattle.sequence_numbers.specs.Held.{held-model, held-header}
@@ -22,11 +22,11 @@ use Rattle.numbers.proofs.Alike.{Alike, itself, both, chosen, passing, nothing,
 use Rattle.numbers.proofs.Near.{Near, as-is, past, min-near, field}
 
 -- a size of at most 32 bits has fewer than any number of bits that a byte does not hold
-counted-near : (size : ℕ) {x y : ℕ} → size < 2 ^ 32 → Near 255 x y → counted x size ≡ counted y size
-counted-near size h as-is = refl
-counted-near size h (past {x} {y} p q) = wide x p ∙ sym (wide y q)
+held-near : (size : ℕ) {x y : ℕ} → size < 2 ^ 32 → Near 255 x y → held x size ≡ held y size
+held-near size h as-is = refl
+held-near size h (past {x} {y} p q) = wide x p ∙ sym (wide y q)
   where
-    wide : (x : ℕ) → 255 ≤ x → counted x size ≡ true
+    wide : (x : ℕ) → 255 ≤ x → held x size ≡ true
     wide x p = let k : 2 ^ 32 ≤ 2 ^ (x + 1) = pow-mono {i = 32} (omega arith) in lt-ltb size (2 ^ (x + 1)) (omega arith)
 
 model : (d : DecoderModelInfo) → Alike decoder-model-info (held-model d) d
@@ -54,8 +54,8 @@ module _ (h : SequenceHeaderObu) (width : h .«max_frame_width_minus_1» < 2 ^ 3
   unfolding frame-size frame-size-fields
   sizes =
       through frame-size-out frame-size-in (
-      passing _ _ (counted-near _ width (min-near 255 _)) (
-      passing _ _ (counted-near _ height (min-near 255 _)) (
+      passing _ _ (held-near _ width (min-near 255 _)) (
+      passing _ _ (held-near _ height (min-near 255 _)) (
       both (field 4 frame-width-bits-minus-1 0 255 (omega arith) (min-near 255 _)) (λ _.
       both (field 4 frame-height-bits-minus-1 0 255 (omega arith) (min-near 255 _)) (λ _. itself)))))
 

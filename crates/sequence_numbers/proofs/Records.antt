@@ -9,7 +9,7 @@ use borrow.Author.Tests.{lt-ltb}
 use Rattle.bits.specs.Walk.{run}
 use Rattle.bits.specs.Codec.{via}
 use Rattle.bits.proofs.Laws.{same-coded}
-use Rattle.obu.specs.Frame.{framed}
+use Rattle.obu.specs.Framing.{framed}
 use Rattle.obu.specs.Obu.{obu}
 use Rattle.obu.specs.declared.header.ObuHeader.{ObuHeader}
 use Rattle.sequence.specs.declared.record.TimingInfo.{TimingInfo}

@@ -25,7 +25,7 @@ use Rattle.sequence_reader.specs.Reader.{answerFor, Answers}
 
 -- one answer, and one content, for every input
 pub only : (xs ns : List ℕ) {o p : Outcome} {ms ls : List ℕ} → Answers xs ns o ms → Answers xs ns p ls → (o ≡ p) × (ms ≡ ls)
-only xs ns a b = let e = a ∙ sym b in (ap (λ (x : R.Answer). x .outcome) e, ap (λ (x : R.Answer). x .numbers) e)
+only xs ns a b = let e = a ∙ sym b in (ap (λ (x : R.Answered). x .outcome) e, ap (λ (x : R.Answered). x .numbers) e)
 
 -- what was read, where the answer is that it was
 pub record Accepted (xs ms : List ℕ) : Type 0 where
@@ -39,8 +39,8 @@ unfolding answerFor
 accepted xs ns {o} {ms} a e = go (read sequence-header xs) refl
   where
     go : (g : Got SequenceHeaderObu) → read sequence-header xs ≡ g → Accepted xs ms
-    go (got h rest) k = record { it = h; rest = rest; reads = k; numbers = ap (λ (x : R.Answer). x .numbers) (rw k at a) }
-    go (stop r) k = absurd (let w : o ≡ Refused r = ap (λ (x : R.Answer). x .outcome) (rw k at a) in let n : _≡_ {A = ℕ} 0 1 = cc in omega arith)
+    go (got h rest) k = record { it = h; rest = rest; reads = k; numbers = ap (λ (x : R.Answered). x .numbers) (rw k at a) }
+    go (stop r) k = absurd (let w : o ≡ Refused r = ap (λ (x : R.Answered). x .outcome) (rw k at a) in let n : _≡_ {A = ℕ} 0 1 = cc in omega arith)
 
 -- Accepted exactly when some consistent record has the bytes as a spelling: what is accepted is spelled by the record whose numbers are left, which is
 -- consistent; its fields that are neither coded nor checked are 0, and its inferred ones have the inferred value, as its walk checks.

@@ -9,7 +9,7 @@ use Rattle.bits.specs.Codec.{Codec, got}
 use Rattle.bits.proofs.Laws.{stop-got, then-inv, got-value}
 use Rattle.obu.specs.declared.header.ObuHeader.{ObuHeader}
 use Rattle.obu.specs.Header.{obu-header}
-use Rattle.obu.specs.Frame.{readSize, readTrailing}
+use Rattle.obu.specs.Framing.{readSize, readTrailing}
 use Rattle.obu.specs.Obu.{readObu, obu}
 use Rattle.obu.specs.Demand3.{read}
 use Rattle.sequence.specs.declared.record.SequenceHeaderObu.{SequenceHeaderObu}

@@ -7,7 +7,7 @@ use lib.ListN.{length, take, drop}
 use Rattle.bits.specs.Bits.{Bits, from}
 use Rattle.bits.specs.Codec.{Got, got, stop, andThen}
 use Rattle.obu.specs.Header.{obu-header}
-use Rattle.obu.specs.Frame.{readSize}
+use Rattle.obu.specs.Framing.{readSize}
 use Rattle.obu.specs.Demand3.{read}
 use Rattle.sequence.specs.Sequence.{sequence-header}
 use Rattle.sequence_reader.specs.declared.read.Part.{Part}

@@ -10,15 +10,15 @@ use Rattle.sequence_reader.specs.declared.read.Outcome.{Outcome}
 use Rattle.sequence_reader.specs.declared.read.Outcome.the-variants.{Done, Refused}
 use Rattle.sequence_reader.specs.Layouts.{header, numbers-of}
 
-pub record Answer : Type 0 where
+pub record Answered : Type 0 where
   pub outcome : Outcome
   pub numbers : List ℕ
 
-abbrev pub answer : Outcome → List ℕ → Answer
+abbrev pub answer : Outcome → List ℕ → Answered
 answer o ns = record { outcome = o; numbers = ns }
 
 -- the record's numbers; where there is none, the numbers ns that were lent
-unfoldable pub answerFor : Got SequenceHeaderObu → List ℕ → Answer
+unfoldable pub answerFor : Got SequenceHeaderObu → List ℕ → Answered
 answerFor (got h rest) ns = answer Done (numbers-of h)
 answerFor (stop r) ns = answer (Refused r) ns
 

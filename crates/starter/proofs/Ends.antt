@@ -12,7 +12,7 @@ use Rattle.bits.specs.Codec.{_▷_, choose, select, via, allowed, within, check
 use Rattle.bits.specs.declared.answer.Refusal.{Refusal}
 use Rattle.bits.specs.declared.answer.Refusal.the-variants.{Inconsistent, Unfit}
 use Rattle.obu.specs.Header.{expected-type, header-end, header-table, obu-header}
-use Rattle.obu.specs.Frame.{framed}
+use Rattle.obu.specs.Framing.{framed}
 use Rattle.obu.specs.Obu.{obu}
 use Rattle.obu.specs.Demand3.{Consistent}
 use Rattle.obu.proofs.Framing.{obu-total}

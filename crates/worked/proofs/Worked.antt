@@ -21,7 +21,7 @@ use Rattle.obu.specs.Writer.{written}
 use Rattle.obu.specs.Delimiter.{temporal-delimiter}
 use Rattle.obu.specs.Demand3.{AreBytes, read}
 use Rattle.obu.specs.Header.{expected-type, header-end, header-table, obu-header, obu-extension-header}
-use Rattle.obu.specs.Frame.{obu-size, trailing-bits, framed, readSize, readTrailing, isTrailing, allZero}
+use Rattle.obu.specs.Framing.{obu-size, trailing-bits, framed, readSize, readTrailing, isTrailing, allZero}
 use Rattle.obu.specs.Obu.{obu, readObu}
 use Rattle.obu.proofs.Demands.{gives}
 use Rattle.obu.proofs.Delimiters.{plain, run-plain}

@@ -9,7 +9,7 @@ use Rattle.bits.specs.declared.answer.Refusal.the-variants.{Short, Long}
 use Rattle.bits.specs.declared.answer.Step.{Step}
 use Rattle.bits.specs.declared.answer.Step.the-variants.{Next, Refused as Halted}
 use Rattle.bits.specs.declared.answer.Answer.the-variants.{Done, Refused}
-use Rattle.bits.specs.Answers.{counted}
+use Rattle.bits.specs.Answers.{capped}
 use Rattle.bits.specs.Written.{wholeBytes}
 use Rattle.obu.specs.Writer.{verdict}
 use Rattle.obu.proofs.answer.verdict.Statement.{statement}
@@ -28,11 +28,11 @@ module _ {s : Step} (len : ℕ) where
   unfolding verdict
   none m h = rw (h, le-ltb 65536 len m)
 
-  less : {c : Cursor} {n : ℕ} → len ≤ 65536 → s ≡ Next c → len < c .at / 8 + (c .at % 8 + 7) / 8 → n ≡ counted (c .at / 8 + (c .at % 8 + 7) / 8) → Refused (Short n) ≡ verdict s len
+  less : {c : Cursor} {n : ℕ} → len ≤ 65536 → s ≡ Next c → len < c .at / 8 + (c .at % 8 + 7) / 8 → n ≡ capped (c .at / 8 + (c .at % 8 + 7) / 8) → Refused (Short n) ≡ verdict s len
   unfolding verdict
   less {c} m h l e = rw (h, le-ltb 65536 len m, whole (c .at), lt-ltb len (c .at / 8 + (c .at % 8 + 7) / 8) l, e)
 
-  enough : {c : Cursor} {n : ℕ} → len ≤ 65536 → s ≡ Next c → c .at / 8 + (c .at % 8 + 7) / 8 ≤ len → n ≡ counted (c .at / 8 + (c .at % 8 + 7) / 8) → Done n ≡ verdict s len
+  enough : {c : Cursor} {n : ℕ} → len ≤ 65536 → s ≡ Next c → c .at / 8 + (c .at % 8 + 7) / 8 ≤ len → n ≡ capped (c .at / 8 + (c .at % 8 + 7) / 8) → Done n ≡ verdict s len
   unfolding verdict
   enough {c} m h l e = rw (h, le-ltb 65536 len m, whole (c .at), le-ltb len (c .at / 8 + (c .at % 8 + 7) / 8) l, e)
 

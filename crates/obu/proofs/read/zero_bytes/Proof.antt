@@ -5,7 +5,7 @@ use Prim.Native.Nat.{_*_, _-_}
 use native.Mathlib.Omega.{arith}
 use borrow.Author.Needs.{needs}
 use Rattle.bits.specs.Bits.{from}
-use Rattle.obu.specs.Frame.{allZero}
+use Rattle.obu.specs.Framing.{allZero}
 use Rattle.obu.proofs.TailReading.{zero-next, zero-all}
 use Rattle.obu.proofs.read.zero_bytes.Statement.{statement}
 use Rattle.obu.proofs.read.zero_bytes.Tie as tie

@@ -1,6 +1,6 @@
 use borrow.Author.Needs.{needs}
 use Rattle.bits.proofs.Walking.{walk}
-use Rattle.obu.specs.Frame.{obu-size}
+use Rattle.obu.specs.Framing.{obu-size}
 use Rattle.obu.proofs.write.obu_size.Statement.{statement}
 use Rattle.obu.proofs.write.obu_size.Tie as tie
 

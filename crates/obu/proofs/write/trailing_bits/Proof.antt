@@ -1,6 +1,6 @@
 use borrow.Author.Needs.{needs}
 use Rattle.bits.proofs.Walking.{walk}
-use Rattle.obu.specs.Frame.{trailing-bits}
+use Rattle.obu.specs.Framing.{trailing-bits}
 use Rattle.obu.proofs.write.trailing_bits.Statement.{statement}
 use Rattle.obu.proofs.write.trailing_bits.Tie as tie
 

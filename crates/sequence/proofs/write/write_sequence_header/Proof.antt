@@ -4,7 +4,7 @@ use mathlib.Core.List.{List, _++_}
 use Prim.Native.Nat.{ℕ, _/_}
 use lib.ListN.{length, take, replicate}
 use borrow.Author.Needs.{needs}
-use Rattle.bits.specs.Answers.{counted}
+use Rattle.bits.specs.Answers.{capped}
 use Rattle.bits.specs.Codec.{via}
 use Rattle.bits.specs.Walk.{Walked}
 use Rattle.bits.specs.declared.answer.Cursor.{Cursor}
@@ -13,7 +13,7 @@ use Rattle.bits.specs.declared.answer.Step.{Step}
 use Rattle.bits.specs.declared.answer.Step.the-variants.{Next, Refused}
 use Rattle.bits.specs.declared.answer.Answer.{Answer}
 use Rattle.obu.specs.Delimiter.{octets}
-use Rattle.obu.specs.Frame.{obu-size}
+use Rattle.obu.specs.Framing.{obu-size}
 use Rattle.obu.specs.Header.{obu-header}
 use Rattle.obu.specs.Writer.{Writes, verdict}
 use Rattle.obu.proofs.Writing.{origin}
@@ -35,12 +35,12 @@ module _ (b : SequenceHeaderObu) {xs us zs : List ℕ} {a : Answer} {s : Step} {
   unfolding sequence-header via
   payload-refused g k d e q = no-payload 1 sequence-header-obu (b .«obu_header») (sequence-out b) g k d e q
 
-  size-refused : {c : Cursor} (k n : ℕ) → k ≡ counted n → Walked (obu-size (b .«obu_header» .«has_size_field») k) c us s zs → s ≡ Refused r → Writes (sequence-header .enc b) xs a xs
+  size-refused : {c : Cursor} (k n : ℕ) → k ≡ capped n → Walked (obu-size (b .«obu_header» .«has_size_field») k) c us s zs → s ≡ Refused r → Writes (sequence-header .enc b) xs a xs
   unfolding sequence-header via
   size-refused k n m g e = no-size 1 sequence-header-obu (b .«obu_header») (sequence-out b) (b .«obu_header» .«has_size_field») k n m g e
 
 written-once : (b : SequenceHeaderObu) (k : ℕ) {hs gs ps xs ys : List ℕ} {s u r : Step} {c d e : Cursor} {a : Answer} → Walked (obu-header 1 .enc (b .«obu_header»)) origin (replicate 10 0) s hs → s ≡ Next c
-    → Walked (padded (sequence-header-obu .enc (sequence-out b))) origin (replicate 448 0) u ps → u ≡ Next e → k ≡ counted (e .at / 8)
+    → Walked (padded (sequence-header-obu .enc (sequence-out b))) origin (replicate 448 0) u ps → u ≡ Next e → k ≡ capped (e .at / 8)
     → Walked (obu-size (b .«obu_header» .«has_size_field») k) c hs r gs → r ≡ Next d → Writes (octets (take (d .at / 8) gs ++ take (e .at / 8) ps)) xs a ys → Writes (sequence-header .enc b) xs a ys
 unfolding sequence-header via
 written-once b k g i l j m o q w = once sequence-header-obu (sequence-out b) 1 (b .«obu_header») k (few (sequence-out b)) g i l j m o q w
@@ -61,17 +61,17 @@ payload k = k .before .before .before .before .before .before .before .before .b
 abbrev payload-done : tie.After-s3 → tie.After-s2
 payload-done k = k .before .before .before .before .before .before .before .before
 
-abbrev bytes : tie.After-s3 → tie.After-counted
+abbrev bytes : tie.After-s3 → tie.After-capped
 bytes k = k .before .before .before .before
 
 abbrev size : tie.After-s3 → tie.After-obu-size
 size k = k .before .before .before
 
 head-fits : tie.Need-array-share-prefix-head
-head-fits c = let k = c .before .before in head-room 1 (start k .args .«record» .«obu_header») (bytes k .counted .result) (header k .header .ensures) (header-done k .s .given .1) (size k .obu-size .ensures) (k .s3 .given .1)
+head-fits c = let k = c .before .before in head-room 1 (start k .args .«record» .«obu_header») (bytes k .capped .result) (header k .header .ensures) (header-done k .s .given .1) (size k .obu-size .ensures) (k .s3 .given .1)
 
 head-counts : tie.Need-slice-aggregate-write-strings
-head-counts c = let k = c .before .before .before in head-count 1 (start k .args .«record» .«obu_header») (bytes k .counted .result) (header k .header .ensures) (header-done k .s .given .1) (size k .obu-size .ensures) (k .s3 .given .1)
+head-counts c = let k = c .before .before .before in head-count 1 (start k .args .«record» .«obu_header») (bytes k .capped .result) (header k .header .ensures) (header-done k .s .given .1) (size k .obu-size .ensures) (k .s3 .given .1)
 
 payload-fits : tie.Need-array-share-prefix-payload
 payload-fits c = let k = c .before .before .before in payload-room sequence-header-obu (sequence-out (start k .args .«record»)) (few (sequence-out (start k .args .«record»))) (payload k .padded-payload .ensures) (payload-done k .s2 .given .1)
@@ -89,12 +89,12 @@ whole c =
     let k = c .before .before .before .before .before .before .before .before in
     written-once
     (start k .args .«record»)
-    (bytes k .counted .result)
+    (bytes k .capped .result)
     (header k .header .ensures)
     (header-done k .s .given .1)
     (payload k .padded-payload .ensures)
     (payload-done k .s2 .given .1)
-    (bytes k .counted .ensures)
+    (bytes k .capped .ensures)
     (size k .obu-size .ensures)
     (k .s3 .given .1)
     (c .before .before .write-strings .ensures)
