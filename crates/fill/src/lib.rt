@@ -15,10 +15,10 @@ ghost use Rattle.bits.specs.Codes.{uvlc, su};
 ghost use Rattle.fill.specs.Fills.{Fills, made, natural, signedBit, whole, flagged};
 
 // f(n); a width over 32 counts as 32.
-pub fn f(s: &[u8], c: Cursor, n: u32, v: &mut u32) -> Step
-    ensures { λ r. ⌜ Fills whole (f (min n 32) 0 0 .dec) (now (s .entry)) c r (now (v .entry)) (now (v .exit)) ⌝ }
+pub fn f(s: &[u8], c: Cursor, width: u32, v: &mut u32) -> Step
+    ensures { λ r. ⌜ Fills whole (f (min width 32) 0 0 .dec) (now (s .entry)) c r (now (v .entry)) (now (v .exit)) ⌝ }
 {
-    let g = reader::f(s, c, n);
+    let g = reader::f(s, c, width);
     let GotNumber::Value(x, c) = g else {
         return Step::Refused(why_number(g));
     };
@@ -63,10 +63,10 @@ pub fn mark(s: &[u8], c: Cursor, v: &mut u32) -> Step
 }
 
 // su(n); a width over 32 counts as 32.
-pub fn su(s: &[u8], c: Cursor, n: u32, v: &mut i32) -> Step
-    ensures { λ r. ⌜ Fills whole (su (min n 32) 0 0 .dec) (now (s .entry)) c r (now (v .entry)) (now (v .exit)) ⌝ }
+pub fn su(s: &[u8], c: Cursor, width: u32, v: &mut i32) -> Step
+    ensures { λ r. ⌜ Fills whole (su (min width 32) 0 0 .dec) (now (s .entry)) c r (now (v .entry)) (now (v .exit)) ⌝ }
 {
-    let g = reader::su(s, c, n);
+    let g = reader::su(s, c, width);
     let GotSigned::Value(x, c) = g else {
         return Step::Refused(why_signed(g));
     };
@@ -75,10 +75,10 @@ pub fn su(s: &[u8], c: Cursor, n: u32, v: &mut i32) -> Step
 }
 
 // f(n) as a number with a sign; a width over 31 counts as 31.
-pub fn natural(s: &[u8], c: Cursor, n: u32, v: &mut i32) -> Step
-    ensures { λ r. ⌜ Fills (made natural) (f (min n 31) 0 0 .dec) (now (s .entry)) c r (now (v .entry)) (now (v .exit)) ⌝ }
+pub fn natural(s: &[u8], c: Cursor, width: u32, v: &mut i32) -> Step
+    ensures { λ r. ⌜ Fills (made natural) (f (min width 31) 0 0 .dec) (now (s .entry)) c r (now (v .entry)) (now (v .exit)) ⌝ }
 {
-    let g = reader::f(s, c, smaller(n, 31));
+    let g = reader::f(s, c, smaller(width, 31));
     let GotNumber::Value(x, c) = g else {
         return Step::Refused(why_number(g));
     };

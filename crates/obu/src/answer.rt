@@ -16,11 +16,11 @@ pub fn verdict(s: Step, len: usize) -> Answer
     match s {
         Step::Refused(r) => Answer::Refused(r),
         Step::Next(c) => {
-            let n = c.at / 8 + (c.at % 8 + 7) / 8;
-            if len < n {
-                return Answer::Refused(Refusal::Short(capped(n)));
+            let needed = c.at / 8 + (c.at % 8 + 7) / 8;
+            if len < needed {
+                return Answer::Refused(Refusal::Short(capped(needed)));
             }
-            Answer::Done(capped(n))
+            Answer::Done(capped(needed))
         }
     }
 }

@@ -43,11 +43,11 @@ pub fn why_header(g: GotHeader) -> Refusal
     }
 }
 
-// n reserved bits, all 0; over 32 bits count as 32.
-fn zeros(s: &[u8], c: Cursor, n: u32) -> Step
-    ensures { λ r. ⌜ Said form.step (zeros (min n 32) .dec) (now (s .entry)) c r ⌝ }
+// So many reserved bits, all 0; a width over 32 counts as 32.
+fn zeros(s: &[u8], c: Cursor, width: u32) -> Step
+    ensures { λ r. ⌜ Said form.step (zeros (min width 32) .dec) (now (s .entry)) c r ⌝ }
 {
-    let g = f(s, c, n);
+    let g = f(s, c, width);
     let GotNumber::Value(v, c) = g else {
         return Step::Refused(why_number(g));
     };

@@ -102,11 +102,11 @@ pub fn obu_size(out: &mut [u8], c: Cursor, has_size_field: bool, size: u32) -> S
     Step::Next(c)
 }
 
-// 5.3.4, behind a payload of n bits.
-pub fn trailing_bits(out: &mut [u8], c: Cursor, n: usize) -> Step
-    ensures { λ s. ⌜ Walked (trailing-bits n) c (now (out .entry)) s (now (out .exit)) ⌝ }
+// 5.3.4, behind a payload of so many bits.
+pub fn trailing_bits(out: &mut [u8], c: Cursor, length: usize) -> Step
+    ensures { λ s. ⌜ Walked (trailing-bits length) c (now (out .entry)) s (now (out .exit)) ⌝ }
 {
-    let padding = 7 - (n % 8) as u32;
+    let padding = 7 - (length % 8) as u32;
     let s = flag(out, c, true);
     let Step::Next(c) = s else {
         return s;

@@ -9,16 +9,16 @@ ghost use Rattle.bits.specs.Codes.{uvlc, su, leb128};
 ghost use Rattle.bits.specs.Answers.{Said};
 ghost use Rattle.bits.specs.Answers as form;
 
-pub fn f(s: &[u8], c: Cursor, n: u32) -> GotNumber
-    ensures { λ r. ⌜ Said form.number (f (min n 32) 0 0 .dec) (now (s .entry)) c r ⌝ }
+pub fn f(s: &[u8], c: Cursor, width: u32) -> GotNumber
+    ensures { λ r. ⌜ Said form.number (f (min width 32) 0 0 .dec) (now (s .entry)) c r ⌝ }
 {
-    reader::f(s, c, n)
+    reader::f(s, c, width)
 }
 
-pub fn su(s: &[u8], c: Cursor, n: u32) -> GotSigned
-    ensures { λ r. ⌜ Said form.signed (su (min n 32) 0 0 .dec) (now (s .entry)) c r ⌝ }
+pub fn su(s: &[u8], c: Cursor, width: u32) -> GotSigned
+    ensures { λ r. ⌜ Said form.signed (su (min width 32) 0 0 .dec) (now (s .entry)) c r ⌝ }
 {
-    reader::su(s, c, n)
+    reader::su(s, c, width)
 }
 
 pub fn uvlc(s: &[u8], c: Cursor, element: u8, index: u8) -> GotNumber

@@ -5,16 +5,16 @@ ghost use Prim.Native.Nat.{min};
 ghost use Rattle.bits.specs.Walk.{Walked, field};
 ghost use Rattle.bits.specs.Codes.{uvlc, su, leb128};
 
-pub fn f(out: &mut [u8], c: Cursor, n: u32, value: u32, element: u8, index: u8) -> Step
-    ensures { λ r. ⌜ Walked (field n value element index) c (now (out .entry)) r (now (out .exit)) ⌝ }
+pub fn f(out: &mut [u8], c: Cursor, width: u32, value: u32, element: u8, index: u8) -> Step
+    ensures { λ r. ⌜ Walked (field width value element index) c (now (out .entry)) r (now (out .exit)) ⌝ }
 {
-    writer::f(out, c, n, value, element, index)
+    writer::f(out, c, width, value, element, index)
 }
 
-pub fn su(out: &mut [u8], c: Cursor, n: u32, value: i32, element: u8, index: u8) -> Step
-    ensures { λ r. ⌜ Walked (su (min n 32) element index .enc value) c (now (out .entry)) r (now (out .exit)) ⌝ }
+pub fn su(out: &mut [u8], c: Cursor, width: u32, value: i32, element: u8, index: u8) -> Step
+    ensures { λ r. ⌜ Walked (su (min width 32) element index .enc value) c (now (out .entry)) r (now (out .exit)) ⌝ }
 {
-    writer::su(out, c, n, value, element, index)
+    writer::su(out, c, width, value, element, index)
 }
 
 pub fn uvlc(out: &mut [u8], c: Cursor, value: u32, element: u8, index: u8) -> Step
@@ -23,8 +23,8 @@ pub fn uvlc(out: &mut [u8], c: Cursor, value: u32, element: u8, index: u8) -> St
     writer::uvlc(out, c, value, element, index)
 }
 
-pub fn leb128(out: &mut [u8], c: Cursor, n: u32) -> Step
-    ensures { λ r. ⌜ Walked (leb128 8 .enc n) c (now (out .entry)) r (now (out .exit)) ⌝ }
+pub fn leb128(out: &mut [u8], c: Cursor, value: u32) -> Step
+    ensures { λ r. ⌜ Walked (leb128 8 .enc value) c (now (out .entry)) r (now (out .exit)) ⌝ }
 {
-    writer::leb128(out, c, n)
+    writer::leb128(out, c, value)
 }

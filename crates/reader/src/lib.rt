@@ -27,8 +27,12 @@ ghost use Rattle.bits.specs.Answers as form;
 fn end(s: &[u8]) -> usize
     ensures { λ r. ⌜ r ≡ end (now (s .entry)) ⌝ }
 {
-    let n = s.len();
-    if n < LIMIT / 8 { n * 8 } else { LIMIT }
+    let length = s.len();
+    if length < LIMIT / 8 {
+        length * 8
+    } else {
+        LIMIT
+    }
 }
 
 // How many bits there are from a place on.
@@ -39,13 +43,13 @@ pub fn rest(s: &[u8], at: usize) -> usize
     if at < last { last - at } else { 0 }
 }
 
-// The k bits above the d low ones of the byte x.
-fn chunk(x: u8, k: u32, d: u32) -> u64
-    requires { ⌜ k + d ≤ 8 ⌝ }
-    ensures { λ r. ⌜ r ≡ x / 2 ^ d % 2 ^ k ⌝ }
+// The `width` bits above the d low ones of the byte x.
+fn chunk(x: u8, width: u32, d: u32) -> u64
+    requires { ⌜ width + d ≤ 8 ⌝ }
+    ensures { λ r. ⌜ r ≡ x / 2 ^ d % 2 ^ width ⌝ }
 {
     let y = x as u64;
-    y / pow2(d) % pow2(k)
+    y / pow2(d) % pow2(width)
 }
 
 // A byte more behind the number v of those before it.
@@ -57,55 +61,55 @@ fn behind(v: u64, x: u8) -> u64
     v * 256 + x as u64
 }
 
-// The number that the m bytes from i on are.
-fn window(s: &[u8], i: usize, m: u32) -> u64
-    requires { ⌜ (m ≤ 5) × (i * 8 + m * 8 ≤ end (now s)) ⌝ }
-    ensures { λ r. ⌜ from (now (s .entry)) (i * 8) ≡ toBits (m * 8) r ++ from (now (s .entry)) (i * 8 + m * 8) ⌝ }
+// The number that so many bytes from i on are.
+fn window(s: &[u8], i: usize, bytes: u32) -> u64
+    requires { ⌜ (bytes ≤ 5) × (i * 8 + bytes * 8 ≤ end (now s)) ⌝ }
+    ensures { λ r. ⌜ from (now (s .entry)) (i * 8) ≡ toBits (bytes * 8) r ++ from (now (s .entry)) (i * 8 + bytes * 8) ⌝ }
 {
     let mut v: u64 = 0;
     let mut j = i;
-    let mut k: u32 = 0;
-    while k < m {
+    let mut done: u32 = 0;
+    while done < bytes {
         v = behind(v, s[j]);
         j += 1;
-        k += 1;
+        done += 1;
     }
     v
 }
 
-// The n bits from a place on, where there are fourteen more: at once all the bytes that n bits can lie in, whatever the place.
-fn by_window(s: &[u8], at: usize, n: u32) -> u32
-    requires { ⌜ (n ≤ 32) × (at + n + 14 ≤ end (now s)) ⌝ }
-    ensures { λ r. ⌜ f n 0 0 .dec (from (now (s .entry)) at) ≡ got r (from (now (s .entry)) (at + n)) ⌝ }
+// The `width` bits from a place on, where there are fourteen more: at once all the bytes that `width` bits can lie in, whatever the place.
+fn by_window(s: &[u8], at: usize, width: u32) -> u32
+    requires { ⌜ (width ≤ 32) × (at + width + 14 ≤ end (now s)) ⌝ }
+    ensures { λ r. ⌜ f width 0 0 .dec (from (now (s .entry)) at) ≡ got r (from (now (s .entry)) (at + width)) ⌝ }
 {
-    let m = (n + 14) / 8;
-    let d = m * 8 - (at % 8) as u32 - n;
-    ((window(s, at / 8, m) >> d) % pow2(n)) as u32
+    let bytes = (width + 14) / 8;
+    let d = bytes * 8 - (at % 8) as u32 - width;
+    ((window(s, at / 8, bytes) >> d) % pow2(width)) as u32
 }
 
 // The same up to the last bit, byte for byte.
-fn by_bytes(s: &[u8], at: usize, n: u32) -> u32
-    requires { ⌜ (n ≤ 32) × (n ≤ end (now s) - at) ⌝ }
-    ensures { λ r. ⌜ f n 0 0 .dec (from (now (s .entry)) at) ≡ got r (from (now (s .entry)) (at + n)) ⌝ }
+fn by_bytes(s: &[u8], at: usize, width: u32) -> u32
+    requires { ⌜ (width ≤ 32) × (width ≤ end (now s) - at) ⌝ }
+    ensures { λ r. ⌜ f width 0 0 .dec (from (now (s .entry)) at) ≡ got r (from (now (s .entry)) (at + width)) ⌝ }
 {
-    let mut left = n;
+    let mut left = width;
     let mut at = at;
     let mut value: u64 = 0;
     while 0 < left {
         let room = 8 - (at % 8) as u32;
-        let k = smaller(left, room);
-        value = value * pow2(k) + chunk(s[at / 8], k, room - k);
-        at += k as usize;
-        left -= k;
+        let piece = smaller(left, room);
+        value = value * pow2(piece) + chunk(s[at / 8], piece, room - piece);
+        at += piece as usize;
+        left -= piece;
     }
     value as u32
 }
 
 // f(n); a width over 32, which is that of the value, counts as 32.
-pub fn f(s: &[u8], c: Cursor, n: u32) -> GotNumber
-    ensures { λ r. ⌜ Said form.number (f (min n 32) 0 0 .dec) (now (s .entry)) c r ⌝ }
+pub fn f(s: &[u8], c: Cursor, width: u32) -> GotNumber
+    ensures { λ r. ⌜ Said form.number (f (min width 32) 0 0 .dec) (now (s .entry)) c r ⌝ }
 {
-    let width = smaller(n, 32);
+    let width = smaller(width, 32);
     let at = c.at;
     let left = rest(s, at);
     if left < width as usize {
@@ -137,20 +141,20 @@ fn unary(s: &[u8], c: Cursor, element: u8, index: u8) -> GotNumber
     ensures { λ r. ⌜ Said form.number (unary 31 element index .dec) (now (s .entry)) c r ⌝ }
 {
     let mut at = c;
-    let mut k: u32 = 0;
+    let mut zeros: u32 = 0;
     loop {
         let g = flag(s, at);
         let GotFlag::Value(one, next) = g else {
             return GotNumber::Refused(why_flag(g));
         };
         if one {
-            return GotNumber::Value(k, next);
+            return GotNumber::Value(zeros, next);
         }
-        if k == 31 {
+        if zeros == 31 {
             return GotNumber::Refused(Refusal::Inconsistent(element, index));
         }
         at = next;
-        k += 1;
+        zeros += 1;
     }
 }
 
@@ -170,10 +174,10 @@ pub fn uvlc(s: &[u8], c: Cursor, element: u8, index: u8) -> GotNumber
 }
 
 // su(n); a width over 32, which is that of the value, counts as 32.
-pub fn su(s: &[u8], c: Cursor, n: u32) -> GotSigned
-    ensures { λ r. ⌜ Said form.signed (su (min n 32) 0 0 .dec) (now (s .entry)) c r ⌝ }
+pub fn su(s: &[u8], c: Cursor, width: u32) -> GotSigned
+    ensures { λ r. ⌜ Said form.signed (su (min width 32) 0 0 .dec) (now (s .entry)) c r ⌝ }
 {
-    let width = smaller(n, 32);
+    let width = smaller(width, 32);
     let g = f(s, c, width);
     let GotNumber::Value(v, c) = g else {
         return GotSigned::Refused(why_number(g));
@@ -186,7 +190,7 @@ pub fn leb128(s: &[u8], c: Cursor) -> GotSize
     ensures { λ r. ⌜ Said form.size (leb128 8 .dec) (now (s .entry)) c r ⌝ }
 {
     let mut at = c;
-    let mut k: u32 = 0;
+    let mut bytes: u32 = 0;
     let mut unit: u64 = 1;
     let mut low: u64 = 0;
     let size = loop {
@@ -199,8 +203,8 @@ pub fn leb128(s: &[u8], c: Cursor) -> GotSize
         if byte < 128 {
             break low;
         }
-        k += 1;
-        if k == 8 {
+        bytes += 1;
+        if bytes == 8 {
             return GotSize::Refused(Refusal::Size);
         }
         unit *= 128;

@@ -12,13 +12,13 @@ pub fn uvlc_value(z: u32, v: u32) -> u32
     (pow2(z) + v as u64 - 1) as u32
 }
 
-// The number whose two's complement in n bits is v.
-pub fn su_value(v: u32, n: u32) -> i32
-    requires { ⌜ (n ≤ 32) × (v < 2 ^ n) ⌝ }
-    ensures { λ r. ⌜ r ≡ su-in n v ⌝ }
+// The number whose two's complement in `width` bits is v.
+pub fn su_value(v: u32, width: u32) -> i32
+    requires { ⌜ (width ≤ 32) × (v < 2 ^ width) ⌝ }
+    ensures { λ r. ⌜ r ≡ su-in width v ⌝ }
 {
     let w = v as u64;
-    let all = pow2(n);
+    let all = pow2(width);
     if w * 2 < all {
         return v as i32;
     }

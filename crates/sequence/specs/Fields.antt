@@ -297,11 +297,11 @@ color-description-in = λ (present, (primaries, (transfer, matrix))). record {
 }
 
 abbrev pub color-description-of : ColorConfig → ColorDescription
-color-description-of k = record {
-  «color_description_present_flag» = k .«color_description_present_flag»;
-  «color_primaries» = k .«color_primaries»;
-  «transfer_characteristics» = k .«transfer_characteristics»;
-  «matrix_coefficients» = k .«matrix_coefficients»;
+color-description-of color = record {
+  «color_description_present_flag» = color .«color_description_present_flag»;
+  «color_primaries» = color .«color_primaries»;
+  «transfer_characteristics» = color .«transfer_characteristics»;
+  «matrix_coefficients» = color .«matrix_coefficients»;
 }
 
 abbrev pub sampling-out : Sampling → Bool × (Bool × ℕ)
@@ -311,7 +311,7 @@ abbrev pub sampling-in : Bool × (Bool × ℕ) → Sampling
 sampling-in = λ (x, (y, position)). record { «subsampling_x» = x; «subsampling_y» = y; «chroma_sample_position» = position }
 
 abbrev pub sampling-of : ColorConfig → Sampling
-sampling-of k = record { «subsampling_x» = k .«subsampling_x»; «subsampling_y» = k .«subsampling_y»; «chroma_sample_position» = k .«chroma_sample_position» }
+sampling-of color = record { «subsampling_x» = color .«subsampling_x»; «subsampling_y» = color .«subsampling_y»; «chroma_sample_position» = color .«chroma_sample_position» }
 
 abbrev pub planes-out : Planes → Bool × (Sampling × Bool)
 planes-out x = (x .«color_range», (x .sampling, x .«separate_uv_delta_q»))
@@ -320,13 +320,13 @@ abbrev pub planes-in : Bool × (Sampling × Bool) → Planes
 planes-in = λ (range, (sampling, separate)). record { «color_range» = range; sampling = sampling; «separate_uv_delta_q» = separate }
 
 abbrev pub planes-of : ColorConfig → Planes
-planes-of k = record { «color_range» = k .«color_range»; sampling = sampling-of k; «separate_uv_delta_q» = k .«separate_uv_delta_q» }
+planes-of color = record { «color_range» = color .«color_range»; sampling = sampling-of color; «separate_uv_delta_q» = color .«separate_uv_delta_q» }
 
 abbrev pub ColorTable : Type 0
 ColorTable = Bool × (Bool × (Bool × (ColorDescription × Planes)))
 
 abbrev pub color-config-out : ColorConfig → ColorTable
-color-config-out k = (k .«high_bitdepth», (k .«twelve_bit», (k .«mono_chrome», (color-description-of k, planes-of k))))
+color-config-out color = (color .«high_bitdepth», (color .«twelve_bit», (color .«mono_chrome», (color-description-of color, planes-of color))))
 
 abbrev pub color-config-in : ColorTable → ColorConfig
 color-config-in = λ (high, (twelve, (mono, (description, planes)))). record {

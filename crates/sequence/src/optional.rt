@@ -21,16 +21,16 @@ pub fn f_if(
     out: &mut [u8],
     c: Cursor,
     coded: bool,
-    n: u32,
+    width: u32,
     value: u32,
     inferred: u32,
     element: u8,
     index: u8,
 ) -> Step
-    ensures { λ s. ⌜ Walked (f-if coded n element index inferred .enc value) c (now (out .entry)) s (now (out .exit)) ⌝ }
+    ensures { λ s. ⌜ Walked (f-if coded width element index inferred .enc value) c (now (out .entry)) s (now (out .exit)) ⌝ }
 {
     if coded {
-        return f(out, c, n, value, element, index);
+        return f(out, c, width, value, element, index);
     }
     demand(out, c, value == inferred, element, index)
 }

@@ -61,12 +61,12 @@ fn full_general(out: &mut [u8], c: Cursor, h: SequenceHeaderObu) -> Step
     ensures { λ s. ⌜ Walked (full-general .enc (general-out h)) c (now (out .entry)) s (now (out .exit)) ⌝ }
 {
     let d = h.decoder_model_info;
-    let k = delay_width(h.decoder_model_info_present_flag, d);
+    let width = delay_width(h.decoder_model_info_present_flag, d);
     let s = timing(out, c, h);
     let Step::Next(c) = s else {
         return s;
     };
-    points(out, c, h.decoder_model_info_present_flag, k, h)
+    points(out, c, h.decoder_model_info_present_flag, width, h)
 }
 
 fn reduced_general(out: &mut [u8], c: Cursor, h: SequenceHeaderObu) -> Step
@@ -163,10 +163,10 @@ fn write_strings(first: &[u8], second: &[u8], out: &mut [u8]) -> Answer
     requires { ⌜ length (now first) + length (now second) ≤ 65536 ⌝ }
     ensures { λ r. ⌜ Writes (octets (now (first .entry) ++ now (second .entry))) (now (out .entry)) r (now (out .exit)) ⌝ }
 {
-    let n = first.len();
+    let length = first.len();
     let answer = verdict(
         Step::Next(Cursor {
-            at: (n + second.len()) * 8,
+            at: (length + second.len()) * 8,
         }),
         out.len(),
     );
@@ -174,7 +174,7 @@ fn write_strings(first: &[u8], second: &[u8], out: &mut [u8]) -> Answer
         return answer;
     };
     bytes::copy(first, out);
-    bytes::copy(second, &mut out[n..]);
+    bytes::copy(second, &mut out[length..]);
     answer
 }
 
@@ -217,11 +217,16 @@ pub fn write_sequence_header(record: SequenceHeaderObu, out: &mut [u8]) -> Answe
     let Step::Next(end) = s else {
         return verdict(s, out.len());
     };
-    let n = end.at / 8;
-    let s = obu_size(&mut head, c, record.obu_header.has_size_field, capped(n));
+    let payload_length = end.at / 8;
+    let s = obu_size(
+        &mut head,
+        c,
+        record.obu_header.has_size_field,
+        capped(payload_length),
+    );
     let Step::Next(c) = s else {
         return verdict(s, out.len());
     };
-    let k = c.at / 8;
-    write_strings(&head[..k], &payload[..n], out)
+    let head_length = c.at / 8;
+    write_strings(&head[..head_length], &payload[..payload_length], out)
 }

@@ -19,39 +19,42 @@ ghost use Rattle.sequence.specs.Fields.{color-description-of, sampling-o
 ghost use Rattle.sequence.specs.Optional.{f-if, flag-if};
 ghost use Rattle.sequence.specs.Color.{color-values, color-description, srgb, sampling, fixed-sampling, mono-planes, srgb-planes, other-planes, planes, color-rest, color-config};
 
-fn color_values(out: &mut [u8], c: Cursor, present: bool, k: ColorConfig) -> Step
-    ensures { λ s. ⌜ Walked (color-values present .enc (k .«color_primaries», (k .«transfer_characteristics», k .«matrix_coefficients»))) c (now (out .entry)) s (now (out .exit)) ⌝ }
+fn color_values(out: &mut [u8], c: Cursor, present: bool, color: ColorConfig) -> Step
+    ensures { λ s. ⌜ Walked (color-values present .enc (color .«color_primaries», (color .«transfer_characteristics», color .«matrix_coefficients»))) c (now (out .entry)) s (now (out .exit)) ⌝ }
 {
     let e = element::COLOR_PRIMARIES;
-    let s = f_if(out, c, present, 8, k.color_primaries, 2, e, 0);
+    let s = f_if(out, c, present, 8, color.color_primaries, 2, e, 0);
     let Step::Next(c) = s else {
         return s;
     };
     let e = element::TRANSFER_CHARACTERISTICS;
-    let s = f_if(out, c, present, 8, k.transfer_characteristics, 2, e, 0);
+    let s = f_if(out, c, present, 8, color.transfer_characteristics, 2, e, 0);
     let Step::Next(c) = s else {
         return s;
     };
     let e = element::MATRIX_COEFFICIENTS;
-    f_if(out, c, present, 8, k.matrix_coefficients, 2, e, 0)
+    f_if(out, c, present, 8, color.matrix_coefficients, 2, e, 0)
 }
 
-fn color_description(out: &mut [u8], c: Cursor, k: ColorConfig) -> Step
-    ensures { λ s. ⌜ Walked (color-description .enc (color-description-of k)) c (now (out .entry)) s (now (out .exit)) ⌝ }
+fn color_description(out: &mut [u8], c: Cursor, color: ColorConfig) -> Step
+    ensures { λ s. ⌜ Walked (color-description .enc (color-description-of color)) c (now (out .entry)) s (now (out .exit)) ⌝ }
 {
-    let s = flag(out, c, k.color_description_present_flag);
+    let s = flag(out, c, color.color_description_present_flag);
     let Step::Next(c) = s else {
         return s;
     };
-    color_values(out, c, k.color_description_present_flag, k)
+    color_values(out, c, color.color_description_present_flag, color)
 }
 
-fn srgb(k: ColorConfig) -> bool
-    ensures { λ r. ⌜ r ≡ srgb (color-description-of k) ⌝ }
+fn srgb(color: ColorConfig) -> bool
+    ensures { λ r. ⌜ r ≡ srgb (color-description-of color) ⌝ }
 {
     both(
-        k.color_primaries == 1,
-        both(k.transfer_characteristics == 13, k.matrix_coefficients == 0),
+        color.color_primaries == 1,
+        both(
+            color.transfer_characteristics == 13,
+            color.matrix_coefficients == 0,
+        ),
     )
 }
 
@@ -69,11 +72,11 @@ fn chroma_sample_position(out: &mut [u8], c: Cursor, x: bool, y: bool, v: u32) -
     f_if(out, c, coded, 2, v, 0, element::CHROMA_SAMPLE_POSITION, 0)
 }
 
-fn sampling(out: &mut [u8], c: Cursor, profile: u32, twelve: bool, k: ColorConfig) -> Step
-    ensures { λ s. ⌜ Walked (sampling profile twelve .enc (sampling-of k)) c (now (out .entry)) s (now (out .exit)) ⌝ }
+fn sampling(out: &mut [u8], c: Cursor, profile: u32, twelve: bool, color: ColorConfig) -> Step
+    ensures { λ s. ⌜ Walked (sampling profile twelve .enc (sampling-of color)) c (now (out .entry)) s (now (out .exit)) ⌝ }
 {
-    let x = k.subsampling_x;
-    let y = k.subsampling_y;
+    let x = color.subsampling_x;
+    let y = color.subsampling_y;
     let s = flag_if(out, c, twelve, x, profile != 1, element::SUBSAMPLING_X, 0);
     let Step::Next(c) = s else {
         return s;
@@ -82,86 +85,91 @@ fn sampling(out: &mut [u8], c: Cursor, profile: u32, twelve: bool, k: ColorConfi
     let Step::Next(c) = s else {
         return s;
     };
-    chroma_sample_position(out, c, x, y, k.chroma_sample_position)
+    chroma_sample_position(out, c, x, y, color.chroma_sample_position)
 }
 
-fn fixed_sampling(out: &mut [u8], c: Cursor, x: bool, y: bool, k: ColorConfig) -> Step
-    ensures { λ s. ⌜ Walked (fixed-sampling x y .enc (sampling-of k)) c (now (out .entry)) s (now (out .exit)) ⌝ }
+fn fixed_sampling(out: &mut [u8], c: Cursor, x: bool, y: bool, color: ColorConfig) -> Step
+    ensures { λ s. ⌜ Walked (fixed-sampling x y .enc (sampling-of color)) c (now (out .entry)) s (now (out .exit)) ⌝ }
 {
-    let s = inferred_flag(out, c, k.subsampling_x, x, element::SUBSAMPLING_X, 0);
+    let s = inferred_flag(out, c, color.subsampling_x, x, element::SUBSAMPLING_X, 0);
     let Step::Next(c) = s else {
         return s;
     };
-    let s = inferred_flag(out, c, k.subsampling_y, y, element::SUBSAMPLING_Y, 0);
+    let s = inferred_flag(out, c, color.subsampling_y, y, element::SUBSAMPLING_Y, 0);
     let Step::Next(c) = s else {
         return s;
     };
     let e = element::CHROMA_SAMPLE_POSITION;
-    demand(out, c, k.chroma_sample_position == 0, e, 0)
+    demand(out, c, color.chroma_sample_position == 0, e, 0)
 }
 
-fn mono_planes(out: &mut [u8], c: Cursor, k: ColorConfig) -> Step
-    ensures { λ s. ⌜ Walked (mono-planes .enc (planes-of k)) c (now (out .entry)) s (now (out .exit)) ⌝ }
+fn mono_planes(out: &mut [u8], c: Cursor, color: ColorConfig) -> Step
+    ensures { λ s. ⌜ Walked (mono-planes .enc (planes-of color)) c (now (out .entry)) s (now (out .exit)) ⌝ }
 {
-    let s = flag(out, c, k.color_range);
+    let s = flag(out, c, color.color_range);
     let Step::Next(c) = s else {
         return s;
     };
-    let s = fixed_sampling(out, c, true, true, k);
+    let s = fixed_sampling(out, c, true, true, color);
     let Step::Next(c) = s else {
         return s;
     };
-    unset(out, c, k.separate_uv_delta_q, element::SEPARATE_UV_DELTA_Q)
+    unset(
+        out,
+        c,
+        color.separate_uv_delta_q,
+        element::SEPARATE_UV_DELTA_Q,
+    )
 }
 
-fn srgb_planes(out: &mut [u8], c: Cursor, k: ColorConfig) -> Step
-    ensures { λ s. ⌜ Walked (srgb-planes .enc (planes-of k)) c (now (out .entry)) s (now (out .exit)) ⌝ }
+fn srgb_planes(out: &mut [u8], c: Cursor, color: ColorConfig) -> Step
+    ensures { λ s. ⌜ Walked (srgb-planes .enc (planes-of color)) c (now (out .entry)) s (now (out .exit)) ⌝ }
 {
-    let s = inferred_flag(out, c, k.color_range, true, element::COLOR_RANGE, 0);
+    let s = inferred_flag(out, c, color.color_range, true, element::COLOR_RANGE, 0);
     let Step::Next(c) = s else {
         return s;
     };
-    let s = fixed_sampling(out, c, false, false, k);
+    let s = fixed_sampling(out, c, false, false, color);
     let Step::Next(c) = s else {
         return s;
     };
-    flag(out, c, k.separate_uv_delta_q)
+    flag(out, c, color.separate_uv_delta_q)
 }
 
-fn other_planes(out: &mut [u8], c: Cursor, profile: u32, twelve: bool, k: ColorConfig) -> Step
-    ensures { λ s. ⌜ Walked (other-planes profile twelve .enc (planes-of k)) c (now (out .entry)) s (now (out .exit)) ⌝ }
+fn other_planes(out: &mut [u8], c: Cursor, profile: u32, twelve: bool, color: ColorConfig) -> Step
+    ensures { λ s. ⌜ Walked (other-planes profile twelve .enc (planes-of color)) c (now (out .entry)) s (now (out .exit)) ⌝ }
 {
-    let s = flag(out, c, k.color_range);
+    let s = flag(out, c, color.color_range);
     let Step::Next(c) = s else {
         return s;
     };
-    let s = sampling(out, c, profile, twelve, k);
+    let s = sampling(out, c, profile, twelve, color);
     let Step::Next(c) = s else {
         return s;
     };
-    flag(out, c, k.separate_uv_delta_q)
+    flag(out, c, color.separate_uv_delta_q)
 }
 
-fn planes(out: &mut [u8], c: Cursor, profile: u32, k: ColorConfig) -> Step
-    ensures { λ s. ⌜ Walked (planes profile (k .«twelve_bit») (k .«mono_chrome») (srgb (color-description-of k)) .enc (planes-of k)) c (now (out .entry)) s (now (out .exit)) ⌝ }
+fn planes(out: &mut [u8], c: Cursor, profile: u32, color: ColorConfig) -> Step
+    ensures { λ s. ⌜ Walked (planes profile (color .«twelve_bit») (color .«mono_chrome») (srgb (color-description-of color)) .enc (planes-of color)) c (now (out .entry)) s (now (out .exit)) ⌝ }
 {
-    if k.mono_chrome {
-        return mono_planes(out, c, k);
+    if color.mono_chrome {
+        return mono_planes(out, c, color);
     }
-    if srgb(k) {
-        return srgb_planes(out, c, k);
+    if srgb(color) {
+        return srgb_planes(out, c, color);
     }
-    other_planes(out, c, profile, k.twelve_bit, k)
+    other_planes(out, c, profile, color.twelve_bit, color)
 }
 
-fn color_rest(out: &mut [u8], c: Cursor, profile: u32, k: ColorConfig) -> Step
-    ensures { λ s. ⌜ Walked (color-rest profile (k .«twelve_bit») (k .«mono_chrome») .enc (color-description-of k, planes-of k)) c (now (out .entry)) s (now (out .exit)) ⌝ }
+fn color_rest(out: &mut [u8], c: Cursor, profile: u32, color: ColorConfig) -> Step
+    ensures { λ s. ⌜ Walked (color-rest profile (color .«twelve_bit») (color .«mono_chrome») .enc (color-description-of color, planes-of color)) c (now (out .entry)) s (now (out .exit)) ⌝ }
 {
-    let s = color_description(out, c, k);
+    let s = color_description(out, c, color);
     let Step::Next(c) = s else {
         return s;
     };
-    planes(out, c, profile, k)
+    planes(out, c, profile, color)
 }
 
 fn twelve_bit(out: &mut [u8], c: Cursor, profile: u32, high: bool, v: bool) -> Step
@@ -171,21 +179,21 @@ fn twelve_bit(out: &mut [u8], c: Cursor, profile: u32, high: bool, v: bool) -> S
     flag_if(out, c, coded, v, false, element::TWELVE_BIT, 0)
 }
 
-pub fn color_config(out: &mut [u8], c: Cursor, profile: u32, k: ColorConfig) -> Step
-    ensures { λ s. ⌜ Walked (color-config profile .enc k) c (now (out .entry)) s (now (out .exit)) ⌝ }
+pub fn color_config(out: &mut [u8], c: Cursor, profile: u32, color: ColorConfig) -> Step
+    ensures { λ s. ⌜ Walked (color-config profile .enc color) c (now (out .entry)) s (now (out .exit)) ⌝ }
 {
-    let s = flag(out, c, k.high_bitdepth);
+    let s = flag(out, c, color.high_bitdepth);
     let Step::Next(c) = s else {
         return s;
     };
-    let s = twelve_bit(out, c, profile, k.high_bitdepth, k.twelve_bit);
+    let s = twelve_bit(out, c, profile, color.high_bitdepth, color.twelve_bit);
     let Step::Next(c) = s else {
         return s;
     };
-    let mono = k.mono_chrome;
+    let mono = color.mono_chrome;
     let s = flag_if(out, c, profile != 1, mono, false, element::MONO_CHROME, 0);
     let Step::Next(c) = s else {
         return s;
     };
-    color_rest(out, c, profile, k)
+    color_rest(out, c, profile, color)
 }

@@ -19,24 +19,37 @@ ghost use Rattle.sequence.specs.Optional.{f-if};
 ghost use Rattle.sequence.specs.Fields.{operating-parameters-info-of, point-model-of, point-delay-of, point-rest-out, points-of};
 ghost use Rattle.sequence.specs.Points.{operating-parameters-info, point-model, point-delay, point-rest, operating-point, operating-points, points, reduced-delay, reduced-point-rest, reduced-point, reduced-points};
 
-fn operating_parameters_info(out: &mut [u8], c: Cursor, n: u32, p: OperatingPoint, i: u8) -> Step
-    ensures { λ s. ⌜ Walked (operating-parameters-info n i .enc (operating-parameters-info-of p)) c (now (out .entry)) s (now (out .exit)) ⌝ }
+fn operating_parameters_info(
+    out: &mut [u8],
+    c: Cursor,
+    width: u32,
+    p: OperatingPoint,
+    i: u8,
+) -> Step
+    ensures { λ s. ⌜ Walked (operating-parameters-info width i .enc (operating-parameters-info-of p)) c (now (out .entry)) s (now (out .exit)) ⌝ }
 {
     let e = element::DECODER_BUFFER_DELAY;
-    let s = f(out, c, n, p.decoder_buffer_delay, e, i);
+    let s = f(out, c, width, p.decoder_buffer_delay, e, i);
     let Step::Next(c) = s else {
         return s;
     };
     let e = element::ENCODER_BUFFER_DELAY;
-    let s = f(out, c, n, p.encoder_buffer_delay, e, i);
+    let s = f(out, c, width, p.encoder_buffer_delay, e, i);
     let Step::Next(c) = s else {
         return s;
     };
     flag(out, c, p.low_delay_mode_flag)
 }
 
-fn point_model(out: &mut [u8], c: Cursor, has_model: bool, n: u32, p: OperatingPoint, i: u8) -> Step
-    ensures { λ s. ⌜ Walked (point-model «has_model» n i .enc (point-model-of p)) c (now (out .entry)) s (now (out .exit)) ⌝ }
+fn point_model(
+    out: &mut [u8],
+    c: Cursor,
+    has_model: bool,
+    width: u32,
+    p: OperatingPoint,
+    i: u8,
+) -> Step
+    ensures { λ s. ⌜ Walked (point-model «has_model» width i .enc (point-model-of p)) c (now (out .entry)) s (now (out .exit)) ⌝ }
 {
     let present = p.decoder_model_present_for_this_op;
     let e = element::DECODER_MODEL_PRESENT_FOR_THIS_OP;
@@ -45,7 +58,7 @@ fn point_model(out: &mut [u8], c: Cursor, has_model: bool, n: u32, p: OperatingP
         return s;
     };
     if present {
-        return operating_parameters_info(out, c, n, p, i);
+        return operating_parameters_info(out, c, width, p, i);
     }
     Step::Next(c)
 }
@@ -77,18 +90,18 @@ fn point_rest(
     out: &mut [u8],
     c: Cursor,
     has_model: bool,
-    n: u32,
+    width: u32,
     has_delay: bool,
     p: OperatingPoint,
     i: u8,
 ) -> Step
-    ensures { λ s. ⌜ Walked (point-rest (p .«seq_level_idx») «has_model» n «has_delay» i .enc (point-rest-out p)) c (now (out .entry)) s (now (out .exit)) ⌝ }
+    ensures { λ s. ⌜ Walked (point-rest (p .«seq_level_idx») «has_model» width «has_delay» i .enc (point-rest-out p)) c (now (out .entry)) s (now (out .exit)) ⌝ }
 {
     let s = seq_tier(out, c, p.seq_level_idx, p.seq_tier, i);
     let Step::Next(c) = s else {
         return s;
     };
-    let s = point_model(out, c, has_model, n, p, i);
+    let s = point_model(out, c, has_model, width, p, i);
     let Step::Next(c) = s else {
         return s;
     };
@@ -99,12 +112,12 @@ fn operating_point(
     out: &mut [u8],
     c: Cursor,
     has_model: bool,
-    n: u32,
+    width: u32,
     has_delay: bool,
     p: OperatingPoint,
     i: u8,
 ) -> Step
-    ensures { λ s. ⌜ Walked (operating-point «has_model» n «has_delay» i .enc p) c (now (out .entry)) s (now (out .exit)) ⌝ }
+    ensures { λ s. ⌜ Walked (operating-point «has_model» width «has_delay» i .enc p) c (now (out .entry)) s (now (out .exit)) ⌝ }
 {
     let s = f(out, c, 12, p.idc, element::OPERATING_POINT_IDC, i);
     let Step::Next(c) = s else {
@@ -114,26 +127,26 @@ fn operating_point(
     let Step::Next(c) = s else {
         return s;
     };
-    point_rest(out, c, has_model, n, has_delay, p, i)
+    point_rest(out, c, has_model, width, has_delay, p, i)
 }
 
 fn operating_points(
     out: &mut [u8],
     c: Cursor,
     has_model: bool,
-    k: u32,
+    width: u32,
     has_delay: bool,
-    n: u32,
+    count: u32,
     points: [OperatingPoint; 32],
 ) -> Step
-    requires { ⌜ n ≤ 32 ⌝ }
-    ensures { λ s. ⌜ Walked (operating-points «has_model» k «has_delay» n .enc points) c (now (out .entry)) s (now (out .exit)) ⌝ }
+    requires { ⌜ count ≤ 32 ⌝ }
+    ensures { λ s. ⌜ Walked (operating-points «has_model» width «has_delay» count .enc points) c (now (out .entry)) s (now (out .exit)) ⌝ }
 {
     let mut c = c;
     let mut i: u8 = 0;
-    while (i as u32) < n {
+    while (i as u32) < count {
         let p = points[i as usize];
-        let s = operating_point(out, c, has_model, k, has_delay, p, i);
+        let s = operating_point(out, c, has_model, width, has_delay, p, i);
         let Step::Next(next) = s else {
             return s;
         };
@@ -143,24 +156,24 @@ fn operating_points(
     Step::Next(c)
 }
 
-pub fn points(out: &mut [u8], c: Cursor, has_model: bool, k: u32, h: SequenceHeaderObu) -> Step
-    ensures { λ s. ⌜ Walked (points «has_model» k .enc (points-of h)) c (now (out .entry)) s (now (out .exit)) ⌝ }
+pub fn points(out: &mut [u8], c: Cursor, has_model: bool, width: u32, h: SequenceHeaderObu) -> Step
+    ensures { λ s. ⌜ Walked (points «has_model» width .enc (points-of h)) c (now (out .entry)) s (now (out .exit)) ⌝ }
 {
     let has_delay = h.initial_display_delay_present_flag;
     let s = flag(out, c, has_delay);
     let Step::Next(c) = s else {
         return s;
     };
-    let count = h.operating_points_cnt_minus_1;
+    let minus_1 = h.operating_points_cnt_minus_1;
     let e = element::OPERATING_POINTS_CNT_MINUS_1;
-    if count <= 31 {
-        let s = f(out, c, 5, count, e, 0);
+    if minus_1 <= 31 {
+        let s = f(out, c, 5, minus_1, e, 0);
         let Step::Next(c) = s else {
             return s;
         };
-        let n = count + 1;
+        let count = minus_1 + 1;
         let points = h.operating_points;
-        return operating_points(out, c, has_model, k, has_delay, n, points);
+        return operating_points(out, c, has_model, width, has_delay, count, points);
     }
     Step::Refused(Refusal::Inconsistent(e, 0))
 }

@@ -14,11 +14,11 @@ ghost use Rattle.bits.specs.Walk.{Walked};
 ghost use Rattle.sequence.specs.Fields.{timing-of};
 ghost use Rattle.sequence.specs.Timing.{ticks-per-picture, timing-info, decoder-model-info, timing-info-if, decoder-model-info-if, timing, reduced-timing};
 
-fn ticks_per_picture(out: &mut [u8], c: Cursor, equal: bool, n: u32) -> Step
-    ensures { λ s. ⌜ Walked (ticks-per-picture equal .enc n) c (now (out .entry)) s (now (out .exit)) ⌝ }
+fn ticks_per_picture(out: &mut [u8], c: Cursor, equal: bool, ticks: u32) -> Step
+    ensures { λ s. ⌜ Walked (ticks-per-picture equal .enc ticks) c (now (out .entry)) s (now (out .exit)) ⌝ }
 {
     if equal {
-        return uvlc(out, c, n, element::NUM_TICKS_PER_PICTURE_MINUS_1, 0);
+        return uvlc(out, c, ticks, element::NUM_TICKS_PER_PICTURE_MINUS_1, 0);
     }
     Step::Next(c)
 }
@@ -38,8 +38,8 @@ fn timing_info(out: &mut [u8], c: Cursor, t: TimingInfo) -> Step
     let Step::Next(c) = s else {
         return s;
     };
-    let n = t.num_ticks_per_picture_minus_1;
-    ticks_per_picture(out, c, t.equal_picture_interval, n)
+    let ticks = t.num_ticks_per_picture_minus_1;
+    ticks_per_picture(out, c, t.equal_picture_interval, ticks)
 }
 
 fn decoder_model_info(out: &mut [u8], c: Cursor, d: DecoderModelInfo) -> Step
@@ -60,17 +60,24 @@ fn decoder_model_info(out: &mut [u8], c: Cursor, d: DecoderModelInfo) -> Step
     let Step::Next(c) = s else {
         return s;
     };
-    let n = d.buffer_removal_time_length_minus_1;
-    let s = f(out, c, 5, n, element::BUFFER_REMOVAL_TIME_LENGTH_MINUS_1, 0);
+    let length = d.buffer_removal_time_length_minus_1;
+    let s = f(
+        out,
+        c,
+        5,
+        length,
+        element::BUFFER_REMOVAL_TIME_LENGTH_MINUS_1,
+        0,
+    );
     let Step::Next(c) = s else {
         return s;
     };
-    let n = d.frame_presentation_time_length_minus_1;
+    let length = d.frame_presentation_time_length_minus_1;
     f(
         out,
         c,
         5,
-        n,
+        length,
         element::FRAME_PRESENTATION_TIME_LENGTH_MINUS_1,
         0,
     )

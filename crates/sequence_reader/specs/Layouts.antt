@@ -65,7 +65,7 @@ operating-point i = of fields.operating-point-out fields.operating-point-in (at 
 
 -- of 32 points those that the count says; the places of the others are not looked at, and those points are zeros
 abbrev pub operating-points : ℕ → ℕ → In (List OperatingPoint)
-operating-points from n = each no-point (λ i. operating-point (from + 9 * i)) 32 0 n
+operating-points from count = each no-point (λ i. operating-point (from + 9 * i)) 32 0 count
 
 abbrev pub points : Row Points
 points = record { size = 290; from = λ i. of fields.points-out fields.points-in (at 0 i bit ▸ (at 0 (i + 1) same ▹ λ count. operating-points (i + 2) (count + 1))) }

@@ -15,12 +15,12 @@ use Rattle.sequence.specs.Optional.{flag-if}
 use Rattle.sequence.specs.Timing.{decoder-model-info, decoder-model-info-if}
 use Rattle.sequence.specs.Points.{operating-point, reduced-point, no-point, points}
 
--- a point of either header, and the points that are coded, the first n of 32
+-- a point of either header, and the points that are coded, the first `count` of 32
 unfoldable pub any-point : Bool → Bool → ℕ → Bool → ℕ → Codec OperatingPoint
-any-point reduced has-model k has-delay i = cond reduced reduced-point (operating-point has-model k has-delay i)
+any-point reduced has-model width has-delay i = cond reduced reduced-point (operating-point has-model width has-delay i)
 
 unfoldable pub point-list : Bool → Bool → ℕ → Bool → ℕ → Codec (List OperatingPoint)
-point-list reduced has-model k has-delay n = array no-point (any-point reduced has-model k has-delay) 32 0 n
+point-list reduced has-model width has-delay count = array no-point (any-point reduced has-model width has-delay) 32 0 count
 
 -- the decoder model and the points behind it: as its flag says, with the flag, and where there is one; the model behind its first field
 unfoldable pub model-points : Bool → Codec (DecoderModelInfo × Points)

@@ -17,11 +17,11 @@ pub fn both(a: bool, b: bool) -> bool
 }
 
 // f(n), if coded, or else the number that is inferred; a width over 32 counts as 32.
-pub fn f_if(s: &[u8], c: Cursor, coded: bool, n: u32, inferred: u32, v: &mut u32) -> Step
-    ensures { λ r. ⌜ Fills whole (f-if coded (min n 32) 0 0 inferred .dec) (now (s .entry)) c r (now (v .entry)) (now (v .exit)) ⌝ }
+pub fn f_if(s: &[u8], c: Cursor, coded: bool, width: u32, inferred: u32, v: &mut u32) -> Step
+    ensures { λ r. ⌜ Fills whole (f-if coded (min width 32) 0 0 inferred .dec) (now (s .entry)) c r (now (v .entry)) (now (v .exit)) ⌝ }
 {
     if coded {
-        return f(s, c, n, v);
+        return f(s, c, width, v);
     }
     *v = inferred;
     Step::Next(c)

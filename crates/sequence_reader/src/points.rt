@@ -14,24 +14,31 @@ ghost use Rattle.sequence_reader.specs.Layouts as row;
 ghost use Rattle.sequence_reader.specs.Tails.{any-point, point-list};
 
 // A width over 32 counts as 32, here and below; the point's numbers begin at `at`.
-fn operating_parameters_info(s: &[u8], c: Cursor, k: u32, at: usize, n: &mut [u32; 347]) -> Step
+fn operating_parameters_info(s: &[u8], c: Cursor, width: u32, at: usize, n: &mut [u32; 347]) -> Step
     requires { ⌜ at + 9 ≤ 347 ⌝ }
-    ensures { λ r. ⌜ Fills (row.operating-parameters-info at) (operating-parameters-info (min k 32) 0 .dec) (now (s .entry)) c r (now (n .entry)) (now (n .exit)) ⌝ }
+    ensures { λ r. ⌜ Fills (row.operating-parameters-info at) (operating-parameters-info (min width 32) 0 .dec) (now (s .entry)) c r (now (n .entry)) (now (n .exit)) ⌝ }
 {
-    let t = f(s, c, k, &mut n[at + 4]);
+    let t = f(s, c, width, &mut n[at + 4]);
     let Step::Next(c) = t else {
         return t;
     };
-    let t = f(s, c, k, &mut n[at + 5]);
+    let t = f(s, c, width, &mut n[at + 5]);
     let Step::Next(c) = t else {
         return t;
     };
     mark(s, c, &mut n[at + 6])
 }
 
-fn point_model(s: &[u8], c: Cursor, has_model: bool, k: u32, at: usize, n: &mut [u32; 347]) -> Step
+fn point_model(
+    s: &[u8],
+    c: Cursor,
+    has_model: bool,
+    width: u32,
+    at: usize,
+    n: &mut [u32; 347],
+) -> Step
     requires { ⌜ at + 9 ≤ 347 ⌝ }
-    ensures { λ r. ⌜ Fills (row.point-model at) (point-model «has_model» (min k 32) 0 .dec) (now (s .entry)) c r (now (n .entry)) (now (n .exit)) ⌝ }
+    ensures { λ r. ⌜ Fills (row.point-model at) (point-model «has_model» (min width 32) 0 .dec) (now (s .entry)) c r (now (n .entry)) (now (n .exit)) ⌝ }
 {
     let mut present = false;
     let t = flag_if(s, c, has_model, false, &mut present);
@@ -40,7 +47,7 @@ fn point_model(s: &[u8], c: Cursor, has_model: bool, k: u32, at: usize, n: &mut 
     };
     n[at + 3] = present as u32;
     if present {
-        return operating_parameters_info(s, c, k, at, n);
+        return operating_parameters_info(s, c, width, at, n);
     }
     n[at + 4] = 0;
     n[at + 5] = 0;
@@ -75,19 +82,19 @@ fn point_rest(
     c: Cursor,
     level: u32,
     has_model: bool,
-    k: u32,
+    width: u32,
     has_delay: bool,
     at: usize,
     n: &mut [u32; 347],
 ) -> Step
     requires { ⌜ at + 9 ≤ 347 ⌝ }
-    ensures { λ r. ⌜ Fills (row.point-rest at) (point-rest level «has_model» (min k 32) «has_delay» 0 .dec) (now (s .entry)) c r (now (n .entry)) (now (n .exit)) ⌝ }
+    ensures { λ r. ⌜ Fills (row.point-rest at) (point-rest level «has_model» (min width 32) «has_delay» 0 .dec) (now (s .entry)) c r (now (n .entry)) (now (n .exit)) ⌝ }
 {
     let t = f_if(s, c, 7 < level, 1, 0, &mut n[at + 2]);
     let Step::Next(c) = t else {
         return t;
     };
-    let t = point_model(s, c, has_model, k, at, n);
+    let t = point_model(s, c, has_model, width, at, n);
     let Step::Next(c) = t else {
         return t;
     };
@@ -98,13 +105,13 @@ fn operating_point(
     s: &[u8],
     c: Cursor,
     has_model: bool,
-    k: u32,
+    width: u32,
     has_delay: bool,
     at: usize,
     n: &mut [u32; 347],
 ) -> Step
     requires { ⌜ at + 9 ≤ 347 ⌝ }
-    ensures { λ r. ⌜ Fills (row.operating-point at) (operating-point «has_model» (min k 32) «has_delay» 0 .dec) (now (s .entry)) c r (now (n .entry)) (now (n .exit)) ⌝ }
+    ensures { λ r. ⌜ Fills (row.operating-point at) (operating-point «has_model» (min width 32) «has_delay» 0 .dec) (now (s .entry)) c r (now (n .entry)) (now (n .exit)) ⌝ }
 {
     let t = f(s, c, 12, &mut n[at]);
     let Step::Next(c) = t else {
@@ -116,7 +123,7 @@ fn operating_point(
         return t;
     };
     n[at + 1] = level;
-    point_rest(s, c, level, has_model, k, has_delay, at, n)
+    point_rest(s, c, level, has_model, width, has_delay, at, n)
 }
 
 // With the reduced header only the level is coded.
@@ -146,18 +153,18 @@ fn any_point(
     c: Cursor,
     reduced: bool,
     has_model: bool,
-    k: u32,
+    width: u32,
     has_delay: bool,
     at: usize,
     n: &mut [u32; 347],
 ) -> Step
     requires { ⌜ at + 9 ≤ 347 ⌝ }
-    ensures { λ r. ⌜ Fills (row.operating-point at) (any-point reduced «has_model» (min k 32) «has_delay» 0 .dec) (now (s .entry)) c r (now (n .entry)) (now (n .exit)) ⌝ }
+    ensures { λ r. ⌜ Fills (row.operating-point at) (any-point reduced «has_model» (min width 32) «has_delay» 0 .dec) (now (s .entry)) c r (now (n .entry)) (now (n .exit)) ⌝ }
 {
     if reduced {
         return reduced_point(s, c, at, n);
     }
-    operating_point(s, c, has_model, k, has_delay, at, n)
+    operating_point(s, c, has_model, width, has_delay, at, n)
 }
 
 // The first `count` points.
@@ -166,13 +173,13 @@ pub fn operating_points(
     c: Cursor,
     reduced: bool,
     has_model: bool,
-    k: u32,
+    width: u32,
     has_delay: bool,
     count: usize,
     n: &mut [u32; 347],
 ) -> Step
     requires { ⌜ count ≤ 32 ⌝ }
-    ensures { λ r. ⌜ Fills (row.operating-points 20 count) (point-list reduced «has_model» (min k 32) «has_delay» count .dec) (now (s .entry)) c r (now (n .entry)) (now (n .exit)) ⌝ }
+    ensures { λ r. ⌜ Fills (row.operating-points 20 count) (point-list reduced «has_model» (min width 32) «has_delay» count .dec) (now (s .entry)) c r (now (n .entry)) (now (n .exit)) ⌝ }
 {
     let mut p = c;
     let mut i = 0;
@@ -182,7 +189,7 @@ pub fn operating_points(
             p,
             reduced,
             has_model,
-            k,
+            width,
             has_delay,
             place::OPERATING_POINTS + 9 * i,
             n,
@@ -197,8 +204,8 @@ pub fn operating_points(
 }
 
 // initial_display_delay_present_flag, operating_points_cnt_minus_1, and so many points.
-pub fn points(s: &[u8], c: Cursor, has_model: bool, k: u32, n: &mut [u32; 347]) -> Step
-    ensures { λ r. ⌜ Fills (row.points .from 18) (points «has_model» (min k 32) .dec) (now (s .entry)) c r (now (n .entry)) (now (n .exit)) ⌝ }
+pub fn points(s: &[u8], c: Cursor, has_model: bool, width: u32, n: &mut [u32; 347]) -> Step
+    ensures { λ r. ⌜ Fills (row.points .from 18) (points «has_model» (min width 32) .dec) (now (s .entry)) c r (now (n .entry)) (now (n .exit)) ⌝ }
 {
     let mut has_delay = false;
     let t = flag(s, c, &mut has_delay);
@@ -206,11 +213,20 @@ pub fn points(s: &[u8], c: Cursor, has_model: bool, k: u32, n: &mut [u32; 347]) 
         return t;
     };
     n[place::INITIAL_DISPLAY_DELAY_PRESENT_FLAG] = has_delay as u32;
-    let mut count = 0;
-    let t = f(s, c, 5, &mut count);
+    let mut minus_1 = 0;
+    let t = f(s, c, 5, &mut minus_1);
     let Step::Next(c) = t else {
         return t;
     };
-    n[place::OPERATING_POINTS_CNT_MINUS_1] = count;
-    operating_points(s, c, false, has_model, k, has_delay, count as usize + 1, n)
+    n[place::OPERATING_POINTS_CNT_MINUS_1] = minus_1;
+    operating_points(
+        s,
+        c,
+        false,
+        has_model,
+        width,
+        has_delay,
+        minus_1 as usize + 1,
+        n,
+    )
 }

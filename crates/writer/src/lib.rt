@@ -20,32 +20,34 @@ ghost use Rattle.bits.specs.Walk.{Walked, field, mark, demand, forward};
 ghost use Rattle.bits.specs.Codec.{sameFlag, inferredFlag};
 ghost use Rattle.bits.specs.Codes.{unary, uvlc, su, su-out, leb128};
 
-// The place n bits further on.
-fn forward(at: usize, n: u32) -> usize
-    ensures { λ r. ⌜ r ≡ forward at n ⌝ }
+// The place `width` bits further on.
+fn forward(at: usize, width: u32) -> usize
+    ensures { λ r. ⌜ r ≡ forward at width ⌝ }
 {
     if LIMIT <= at {
         return at;
     }
-    let next = at + n as usize;
+    let next = at + width as usize;
     if LIMIT <= next { LIMIT } else { next }
 }
 
-// Whether v has at most n bits.
-pub fn fits(v: u32, n: u32) -> bool
-    ensures { λ r. ⌜ r ≡ ltb v (2 ^ n) ⌝ }
+// Whether v has at most `width` bits.
+pub fn fits(v: u32, width: u32) -> bool
+    ensures { λ r. ⌜ r ≡ ltb v (2 ^ width) ⌝ }
 {
-    if n < 32 { v >> n == 0 } else { true }
+    if width < 32 { v >> width == 0 } else { true }
 }
 
 // f(n).
-pub fn f(out: &mut [u8], c: Cursor, n: u32, value: u32, element: u8, index: u8) -> Step
-    ensures { λ r. ⌜ Walked (field n value element index) c (now (out .entry)) r (now (out .exit)) ⌝ }
+pub fn f(out: &mut [u8], c: Cursor, width: u32, value: u32, element: u8, index: u8) -> Step
+    ensures { λ r. ⌜ Walked (field width value element index) c (now (out .entry)) r (now (out .exit)) ⌝ }
 {
-    if fits(value, n) {
+    if fits(value, width) {
         let at = c.at;
-        put(out, at, n, value);
-        Step::Next(Cursor { at: forward(at, n) })
+        put(out, at, width, value);
+        Step::Next(Cursor {
+            at: forward(at, width),
+        })
     } else {
         Step::Refused(Refusal::Unfit(element, index))
     }
@@ -96,9 +98,11 @@ fn unary(out: &mut [u8], c: Cursor, z: u32, element: u8, index: u8) -> Step
 {
     if z <= 31 {
         let at = c.at;
-        let n = z + 1;
-        put(out, at, n, 1);
-        return Step::Next(Cursor { at: forward(at, n) });
+        let width = z + 1;
+        put(out, at, width, 1);
+        return Step::Next(Cursor {
+            at: forward(at, width),
+        });
     }
     Step::Refused(Refusal::Unfit(element, index))
 }
@@ -115,48 +119,48 @@ pub fn uvlc(out: &mut [u8], c: Cursor, value: u32, element: u8, index: u8) -> St
     f(out, c, z, (w - pow2(z)) as u32, element, index)
 }
 
-// The shortest leb128 of n: at most five bytes, and never refused.
-pub fn leb128(out: &mut [u8], c: Cursor, n: u32) -> Step
-    ensures { λ r. ⌜ Walked (leb128 8 .enc n) c (now (out .entry)) r (now (out .exit)) ⌝ }
+// The shortest leb128 of a value: at most five bytes, and never refused.
+pub fn leb128(out: &mut [u8], c: Cursor, value: u32) -> Step
+    ensures { λ r. ⌜ Walked (leb128 8 .enc value) c (now (out .entry)) r (now (out .exit)) ⌝ }
 {
     let mut c = c;
-    let mut n = n;
-    while 128 <= n {
-        let s = f(out, c, 8, 128 + n % 128, 0, 0);
+    let mut value = value;
+    while 128 <= value {
+        let s = f(out, c, 8, 128 + value % 128, 0, 0);
         let Step::Next(next) = s else {
             return s;
         };
         c = next;
-        n /= 128;
+        value /= 128;
     }
-    f(out, c, 8, n, 0, 0)
+    f(out, c, 8, value, 0, 0)
 }
 
 // su(n); a width over 32, which is that of the value, counts as 32.
-pub fn su(out: &mut [u8], c: Cursor, n: u32, value: i32, element: u8, index: u8) -> Step
-    ensures { λ r. ⌜ Walked (su (min n 32) element index .enc value) c (now (out .entry)) r (now (out .exit)) ⌝ }
+pub fn su(out: &mut [u8], c: Cursor, width: u32, value: i32, element: u8, index: u8) -> Step
+    ensures { λ r. ⌜ Walked (su (min width 32) element index .enc value) c (now (out .entry)) r (now (out .exit)) ⌝ }
 {
-    let width = smaller(n, 32);
+    let width = smaller(width, 32);
     let code = su_code(value, width);
     f(out, c, width, code, element, index)
 }
 
 // The same of a 16-bit and of an 8-bit number.
-pub fn su16(out: &mut [u8], c: Cursor, n: u32, value: i16, element: u8, index: u8) -> Step
-    ensures { λ r. ⌜ Walked (su (min n 32) element index .enc value) c (now (out .entry)) r (now (out .exit)) ⌝ }
+pub fn su16(out: &mut [u8], c: Cursor, width: u32, value: i16, element: u8, index: u8) -> Step
+    ensures { λ r. ⌜ Walked (su (min width 32) element index .enc value) c (now (out .entry)) r (now (out .exit)) ⌝ }
 {
-    su(out, c, n, value as i32, element, index)
+    su(out, c, width, value as i32, element, index)
 }
 
-pub fn su8(out: &mut [u8], c: Cursor, n: u32, value: i8, element: u8, index: u8) -> Step
-    ensures { λ r. ⌜ Walked (su (min n 32) element index .enc value) c (now (out .entry)) r (now (out .exit)) ⌝ }
+pub fn su8(out: &mut [u8], c: Cursor, width: u32, value: i8, element: u8, index: u8) -> Step
+    ensures { λ r. ⌜ Walked (su (min width 32) element index .enc value) c (now (out .entry)) r (now (out .exit)) ⌝ }
 {
-    su16(out, c, n, value as i16, element, index)
+    su16(out, c, width, value as i16, element, index)
 }
 
 // The code of su(n) of a 16-bit number, or 2^n where it is out of range.
-pub fn su16_code(value: i16, n: u32) -> u32
-    ensures { λ r. ⌜ r ≡ su-out (min n 32) value ⌝ }
+pub fn su16_code(value: i16, width: u32) -> u32
+    ensures { λ r. ⌜ r ≡ su-out (min width 32) value ⌝ }
 {
-    su_code(value as i32, smaller(n, 32))
+    su_code(value as i32, smaller(width, 32))
 }

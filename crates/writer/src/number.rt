@@ -5,12 +5,12 @@ ghost use lib.Signed.{mag};
 ghost use Prim.Native.Nat.{_≤_, _/_, _^_};
 ghost use Rattle.bits.specs.Codes.{topBit, su-out};
 
-// v without its k low bits, 0 where there are no others.
-pub fn above(v: u32, k: u32) -> u64
-    ensures { λ r. ⌜ r ≡ v / 2 ^ k ⌝ }
+// v without so many of its low bits, 0 where there are no others.
+pub fn above(v: u32, low: u32) -> u64
+    ensures { λ r. ⌜ r ≡ v / 2 ^ low ⌝ }
 {
     let w = v as u64;
-    if k < 64 { w >> k } else { 0 }
+    if low < 64 { w >> low } else { 0 }
 }
 
 // The place of the highest one of w.
@@ -18,12 +18,12 @@ pub fn top_bit(w: u64) -> u32
     ensures { λ r. ⌜ r ≡ topBit 32 w ⌝ }
     ensures { λ r. ⌜ r ≤ 32 ⌝ }
 {
-    let mut k: u32 = 32;
-    while 0 < k {
-        if pow2(k) <= w {
-            return k;
+    let mut place: u32 = 32;
+    while 0 < place {
+        if pow2(place) <= w {
+            return place;
         }
-        k -= 1;
+        place -= 1;
     }
     0
 }
@@ -35,13 +35,13 @@ pub fn magnitude(v: i32) -> u32
     if v < 0 { (-1 - v) as u32 } else { v as u32 }
 }
 
-// v in n bits of two's complement, or 2^n where it is out of range.
-pub fn su_code(v: i32, n: u32) -> u32
-    requires { ⌜ n ≤ 32 ⌝ }
-    ensures { λ r. ⌜ r ≡ su-out n v ⌝ }
+// v in `width` bits of two's complement, or 2^width where it is out of range.
+pub fn su_code(v: i32, width: u32) -> u32
+    requires { ⌜ width ≤ 32 ⌝ }
+    ensures { λ r. ⌜ r ≡ su-out width v ⌝ }
 {
     let m = magnitude(v) as u64;
-    let all = pow2(n);
+    let all = pow2(width);
     if v < 0 {
         if (m + 1) * 2 <= all {
             return (all - (m + 1)) as u32;

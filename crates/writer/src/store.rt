@@ -8,23 +8,23 @@ ghost use Prim.Native.Nat.{_+_, _*_, _/_, _≤_, _<_};
 ghost use Rattle.bits.specs.Bits.{put, setBit, toBits, from, end};
 ghost use Rattle.writer.specs.Blend.{blend};
 
-// w with the n bits above its d low ones made the n low bits of v.
-fn blend(w: u64, n: u32, d: u32, v: u64) -> u64
-    requires { ⌜ (n ≤ 32) × (d < 64) × (n + d ≤ 64) ⌝ }
-    ensures { λ r. ⌜ r ≡ blend w n d v ⌝ }
+// w with the `width` bits above its d low ones made the `width` low bits of v.
+fn blend(w: u64, width: u32, d: u32, v: u64) -> u64
+    requires { ⌜ (width ≤ 32) × (d < 64) × (width + d ≤ 64) ⌝ }
+    ensures { λ r. ⌜ r ≡ blend w width d v ⌝ }
 {
-    let p = pow2(n);
+    let p = pow2(width);
     let old = (w >> d) % p;
     let new = v % p;
     w - (old << d) + (new << d)
 }
 
 // The same of a byte.
-fn blend_byte(x: u8, n: u32, d: u32, v: u64) -> u8
-    requires { ⌜ n + d ≤ 8 ⌝ }
-    ensures { λ r. ⌜ r ≡ blend x n d v ⌝ }
+fn blend_byte(x: u8, width: u32, d: u32, v: u64) -> u8
+    requires { ⌜ width + d ≤ 8 ⌝ }
+    ensures { λ r. ⌜ r ≡ blend x width d v ⌝ }
 {
-    blend(x as u64, n, d, v) as u8
+    blend(x as u64, width, d, v) as u8
 }
 
 // The bit at a place made b.
@@ -40,15 +40,15 @@ pub fn put_bit(out: &mut [u8], at: usize, b: bool)
     }
 }
 
-// The n low bits of value, one by one. (A walk that only counts goes over an empty slice: it leaves at once.)
-fn put_bits(out: &mut [u8], at: usize, n: u32, value: u32)
-    ensures { λ _. ⌜ now (out .exit) ≡ put (now (out .entry)) at (toBits n value) ⌝ }
+// The `width` low bits of value, one by one. (A walk that only counts goes over an empty slice: it leaves at once.)
+fn put_bits(out: &mut [u8], at: usize, width: u32, value: u32)
+    ensures { λ _. ⌜ now (out .exit) ≡ put (now (out .entry)) at (toBits width value) ⌝ }
 {
     if out.len() <= at / 8 {
         return;
     }
     let mut place = at;
-    let mut left = n;
+    let mut left = width;
     while 0 < left {
         if LIMIT <= place {
             return;
@@ -75,11 +75,11 @@ fn word(s: &[u8], i: usize) -> u32
 {
     let mut v: u32 = 0;
     let mut j = i;
-    let mut k: u32 = 0;
-    while k < 4 {
+    let mut done: u32 = 0;
+    while done < 4 {
         v = behind(v, s[j]);
         j += 1;
-        k += 1;
+        done += 1;
     }
     v
 }
@@ -108,30 +108,30 @@ fn spread(out: &mut [u8], i: usize, w: u64)
     }
 }
 
-// The n low bits of value, in the eight bytes from that of the place on: all at once.
-fn put_window(out: &mut [u8], at: usize, n: u32, value: u32)
-    requires { ⌜ (0 < n) × (n ≤ 32) × (at / 8 * 8 + 64 ≤ end (now out)) ⌝ }
-    ensures { λ _. ⌜ now (out .exit) ≡ put (now (out .entry)) at (toBits n value) ⌝ }
+// The `width` low bits of value, in the eight bytes from that of the place on: all at once.
+fn put_window(out: &mut [u8], at: usize, width: u32, value: u32)
+    requires { ⌜ (0 < width) × (width ≤ 32) × (at / 8 * 8 + 64 ≤ end (now out)) ⌝ }
+    ensures { λ _. ⌜ now (out .exit) ≡ put (now (out .entry)) at (toBits width value) ⌝ }
 {
     let i = at / 8;
     let w = window(out, i);
-    let d = 64 - (at % 8) as u32 - n;
-    spread(out, i, blend(w, n, d, value as u64));
+    let d = 64 - (at % 8) as u32 - width;
+    spread(out, i, blend(w, width, d, value as u64));
 }
 
-// The n low bits of value are stored from the place `at` on, the top one first.
-pub fn put(out: &mut [u8], at: usize, n: u32, value: u32)
-    ensures { λ _. ⌜ now (out .exit) ≡ put (now (out .entry)) at (toBits n value) ⌝ }
+// The `width` low bits of value are stored from the place `at` on, the top one first.
+pub fn put(out: &mut [u8], at: usize, width: u32, value: u32)
+    ensures { λ _. ⌜ now (out .exit) ≡ put (now (out .entry)) at (toBits width value) ⌝ }
 {
     if at / 8 + 8 <= out.len() {
         if at < LIMIT - 64 {
-            if 0 < n {
-                if n <= 32 {
-                    put_window(out, at, n, value);
+            if 0 < width {
+                if width <= 32 {
+                    put_window(out, at, width, value);
                     return;
                 }
             }
         }
     }
-    put_bits(out, at, n, value);
+    put_bits(out, at, width, value);
 }
