@@ -1,15 +1,6 @@
 // Runs the four codes on lists of values, and prints a row for each: the bits that were written, and the value that they read as; or the refusal.
-use bits::answer::Cursor;
-use bits::answer::GotFlag;
-use bits::answer::GotNumber;
-use bits::answer::GotSigned;
-use bits::answer::GotSize;
-use bits::answer::Refusal;
-use bits::answer::Step;
-use bits::element::BASE_Q_IDX;
-use bits::element::DELTA_Q_Y_DC;
-use bits::element::FEATURE_DATA;
-use bits::element::NUM_TICKS_PER_PICTURE_MINUS_1;
+use bits::answer::*;
+use bits::element::*;
 use libc::STDOUT_FILENO;
 
 const F_WIDTHS: [u32; 10] = [0, 0, 1, 5, 5, 5, 8, 12, 31, 32];

@@ -1,12 +1,5 @@
 // The codes of 4.10 read into a place.
-use bits::answer::Cursor;
-use bits::answer::GotFlag;
-use bits::answer::GotNumber;
-use bits::answer::GotSigned;
-use bits::answer::Step;
-use bits::answer::why_flag;
-use bits::answer::why_number;
-use bits::answer::why_signed;
+use bits::answer::*;
 use bits::number::smaller;
 ghost use mathlib.Core.Path.{_≡_};
 ghost use Prim.Native.Nat.{min};

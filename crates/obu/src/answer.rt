@@ -1,8 +1,5 @@
 // What a public writer of an OBU answers, known before the slice is written.
-use bits::answer::Answer;
-use bits::answer::Refusal;
-use bits::answer::Step;
-use bits::answer::capped;
+use bits::answer::*;
 ghost use mathlib.Core.Path.{_≡_};
 ghost use Rattle.obu.specs.Writer.{verdict};
 

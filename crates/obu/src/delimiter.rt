@@ -1,11 +1,8 @@
 // The temporal delimiter (5.6).
 use crate::answer::verdict;
 use crate::header::ObuHeader;
-use crate::write::obu_header;
-use crate::write::obu_size;
-use bits::answer::Answer;
-use bits::answer::Cursor;
-use bits::answer::Step;
+use crate::write::*;
+use bits::answer::*;
 ghost use Prim.Native.Nat.{_≤_};
 ghost use lib.ListN.{length};
 ghost use Rattle.bits.specs.Walk.{Walked};

@@ -1,20 +1,8 @@
 // 5.3 read: the header, the size, and the trailing bits.
 use crate::header::ObuHeader;
-use bits::answer::Cursor;
-use bits::answer::GotFlag;
-use bits::answer::GotNumber;
-use bits::answer::GotSize;
-use bits::answer::Refusal;
-use bits::answer::Step;
-use bits::answer::why_flag;
-use bits::answer::why_number;
-use bits::answer::why_size;
-use bits::answer::why_step;
+use bits::answer::*;
 use bits::element::OBU_TYPE;
-use reader::f;
-use reader::flag;
-use reader::leb128;
-use reader::rest;
+use reader::*;
 ghost use mathlib.Core.Path.{_≡_};
 ghost use Prim.Native.Nat.{min, _-_, _*_, _/_, _<_};
 ghost use lib.ListN.{length};

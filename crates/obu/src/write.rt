@@ -1,15 +1,8 @@
 // 5.3 written: the header, the size, and the trailing bits.
 use crate::header::ObuHeader;
-use bits::answer::Cursor;
-use bits::answer::Refusal;
-use bits::answer::Step;
-use bits::answer::capped;
-use bits::element::OBU_TYPE;
-use bits::element::SPATIAL_ID;
-use bits::element::TEMPORAL_ID;
-use writer::f;
-use writer::flag;
-use writer::leb128;
+use bits::answer::*;
+use bits::element::*;
+use writer::*;
 ghost use mathlib.Core.Path.{_≡_};
 ghost use Rattle.bits.specs.Walk.{Walked, field};
 ghost use Rattle.obu.specs.Header.{expected-type, obu-extension-header, extension-of, header-end, end-of, obu-header};

@@ -1,8 +1,5 @@
 // f(n), su(n), uvlc and leb128, read.
-use bits::answer::Cursor;
-use bits::answer::GotNumber;
-use bits::answer::GotSigned;
-use bits::answer::GotSize;
+use bits::answer::*;
 ghost use Prim.Native.Nat.{min};
 ghost use Rattle.bits.specs.Codec.{f};
 ghost use Rattle.bits.specs.Codes.{uvlc, su, leb128};

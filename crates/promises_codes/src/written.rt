@@ -1,6 +1,5 @@
 // f(n), su(n), uvlc and leb128, written.
-use bits::answer::Cursor;
-use bits::answer::Step;
+use bits::answer::*;
 ghost use Prim.Native.Nat.{min};
 ghost use Rattle.bits.specs.Walk.{Walked, field};
 ghost use Rattle.bits.specs.Codes.{uvlc, su, leb128};

@@ -1,19 +1,9 @@
 // The bit reader: the codes of 4.10 read. Each step answers a value and the place behind it, or the refusal.
 mod number; // number.rt: the values of codes
 
-use crate::number::su_value;
-use crate::number::uvlc_value;
-use bits::answer::Cursor;
-use bits::answer::GotFlag;
-use bits::answer::GotNumber;
-use bits::answer::GotSigned;
-use bits::answer::GotSize;
-use bits::answer::LIMIT;
-use bits::answer::Refusal;
-use bits::answer::why_flag;
-use bits::answer::why_number;
-use bits::number::pow2;
-use bits::number::smaller;
+use crate::number::*;
+use bits::answer::*;
+use bits::number::*;
 ghost use mathlib.Core.Path.{_≡_};
 ghost use mathlib.Core.List.{_++_};
 ghost use Prim.Native.Nat.{min, _+_, _-_, _*_, _/_, _%_, _^_, _<_, _≤_};

@@ -1,7 +1,5 @@
 // The record in groups: each is the value of one table of specs/.
-use crate::record::DecoderModelInfo;
-use crate::record::OperatingPoint;
-use crate::record::TimingInfo;
+use crate::record::*;
 
 // 5.5.5
 pub struct OperatingParametersInfo {

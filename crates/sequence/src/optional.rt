@@ -1,10 +1,6 @@
 // A field that is coded only under a condition, and else must hold an inferred value.
-use bits::answer::Cursor;
-use bits::answer::Step;
-use writer::demand;
-use writer::f;
-use writer::flag;
-use writer::inferred_flag;
+use bits::answer::*;
+use writer::*;
 ghost use mathlib.Core.Path.{_≡_};
 ghost use mathlib.Core.Bool.{_&&_, false};
 ghost use Rattle.bits.specs.Walk.{Walked};

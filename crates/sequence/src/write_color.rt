@@ -1,15 +1,9 @@
 // 5.5.2 color_config, written.
-use crate::optional::both;
-use crate::optional::f_if;
-use crate::optional::flag_if;
-use crate::optional::unset;
+use crate::optional::*;
 use crate::record::ColorConfig;
-use bits::answer::Cursor;
-use bits::answer::Step;
+use bits::answer::*;
 use bits::element;
-use writer::demand;
-use writer::flag;
-use writer::inferred_flag;
+use writer::*;
 ghost use mathlib.Core.Path.{_≡_};
 ghost use mathlib.Core.Bool.{_&&_, false};
 ghost use lib.Dec.{eqb};

@@ -1,12 +1,9 @@
 // The frame's size and its identifiers, of 5.5.1, written.
 use crate::optional::flag_if;
 use crate::record::SequenceHeaderObu;
-use bits::answer::Cursor;
-use bits::answer::Step;
+use bits::answer::*;
 use bits::element;
-use writer::demand;
-use writer::f;
-use writer::fits;
+use writer::*;
 ghost use Rattle.bits.specs.Walk.{Walked, demand as demanded};
 ghost use Rattle.bits.specs.declared.answer.Refusal.the-variants.{Inconsistent};
 ghost use Rattle.sequence.specs.Fields.{frame-size-of, frame-ids-of};

@@ -1,16 +1,9 @@
 // 5.5.5 operating_parameters_info, and the operating points of 5.5.1, written.
-use crate::optional::f_if;
-use crate::optional::flag_if;
-use crate::optional::unset;
-use crate::record::OperatingPoint;
-use crate::record::SequenceHeaderObu;
-use bits::answer::Cursor;
-use bits::answer::Refusal;
-use bits::answer::Step;
+use crate::optional::*;
+use crate::record::*;
+use bits::answer::*;
 use bits::element;
-use writer::demand;
-use writer::f;
-use writer::flag;
+use writer::*;
 ghost use Prim.Native.Nat.{_≤_};
 ghost use lib.Dec.{ltb};
 ghost use Rattle.bits.specs.Walk.{Walked};

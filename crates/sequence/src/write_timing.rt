@@ -1,15 +1,9 @@
 // 5.5.3 timing_info, 5.5.4 decoder_model_info, and the lines of 5.5.1 that they stand in, written.
-use crate::optional::flag_if;
-use crate::optional::unset;
-use crate::record::DecoderModelInfo;
-use crate::record::SequenceHeaderObu;
-use crate::record::TimingInfo;
-use bits::answer::Cursor;
-use bits::answer::Step;
+use crate::optional::*;
+use crate::record::*;
+use bits::answer::*;
 use bits::element;
-use writer::f;
-use writer::flag;
-use writer::uvlc;
+use writer::*;
 ghost use Rattle.bits.specs.Walk.{Walked};
 ghost use Rattle.sequence.specs.Fields.{timing-of};
 ghost use Rattle.sequence.specs.Timing.{ticks-per-picture, timing-info, decoder-model-info, timing-info-if, decoder-model-info-if, timing, reduced-timing};

@@ -1,14 +1,9 @@
 // The coding tools of 5.5.1, written.
-use crate::optional::f_if;
-use crate::optional::flag_if;
-use crate::optional::unset;
+use crate::optional::*;
 use crate::record::SequenceHeaderObu;
-use bits::answer::Cursor;
-use bits::answer::Step;
+use bits::answer::*;
 use bits::element;
-use writer::demand;
-use writer::f;
-use writer::flag;
+use writer::*;
 ghost use Rattle.bits.specs.Walk.{Walked};
 ghost use Rattle.sequence.specs.Fields.{block-tools-of, hint-tools-of, choice-in, hint-bits-in, motion-out, order-out, inter-tools-of, filter-tools-of};
 ghost use Rattle.sequence.specs.Tools.{block-tools, hint-tools, choice, no-choice, integer-mv, hint-bits, motion-tools, order-tools, full-tools, reduced-motion-tools, reduced-order-tools, reduced-tools, inter-tools, filter-tools};

@@ -1,19 +1,12 @@
 // 5.5.1 sequence_header_obu, read.
 use crate::color::color_config;
-use crate::frame::frame_ids;
-use crate::frame::frame_size;
+use crate::frame::*;
 use crate::general::general;
 use crate::place;
-use crate::tools::block_tools;
-use crate::tools::filter_tools;
-use crate::tools::inter_tools;
-use bits::answer::Cursor;
-use bits::answer::Refusal;
-use bits::answer::Step;
+use crate::tools::*;
+use bits::answer::*;
 use bits::element::SEQ_PROFILE;
-use fill::f;
-use fill::flag;
-use fill::mark;
+use fill::*;
 ghost use Rattle.fill.specs.Fills.{Fills, whole};
 ghost use Rattle.sequence.specs.Sequence.{profile, color-and-grain, tools-and-color, body, sequence-header-obu};
 ghost use Rattle.sequence_reader.specs.Layouts as row;

@@ -1,12 +1,8 @@
 // 5.5.2 color_config, read.
-use crate::optional::both;
-use crate::optional::f_if;
-use crate::optional::flag_if;
+use crate::optional::*;
 use crate::place;
-use bits::answer::Cursor;
-use bits::answer::Step;
-use fill::flag;
-use fill::mark;
+use bits::answer::*;
+use fill::*;
 ghost use mathlib.Core.Path.{_≡_};
 ghost use mathlib.Core.Bool.{_&&_, false};
 ghost use lib.Dec.{eqb};

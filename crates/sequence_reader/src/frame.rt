@@ -1,8 +1,7 @@
 // The frame's size and its identifiers, of 5.5.1, read.
 use crate::optional::flag_if;
 use crate::place;
-use bits::answer::Cursor;
-use bits::answer::Step;
+use bits::answer::*;
 use fill::f;
 ghost use Prim.Native.Nat.{_+_, _≤_};
 ghost use Rattle.fill.specs.Fills.{Fills};

@@ -1,14 +1,10 @@
 // 5.5.3 timing_info, 5.5.4 decoder_model_info, and 5.5.1 up to the operating points, read.
 use crate::optional::flag_if;
 use crate::place;
-use crate::points::operating_points;
-use crate::points::points;
-use bits::answer::Cursor;
-use bits::answer::Step;
+use crate::points::*;
+use bits::answer::*;
 use bits::element::NUM_TICKS_PER_PICTURE_MINUS_1;
-use fill::f;
-use fill::flag;
-use fill::uvlc;
+use fill::*;
 ghost use Rattle.fill.specs.Fills.{Fills, whole, _▸_};
 ghost use Rattle.fill.specs.Rows.{flag};
 ghost use Rattle.sequence.specs.Timing.{ticks-per-picture, timing-info, timing-info-if};

@@ -1,9 +1,6 @@
 // A field that is coded only under a condition, and else has an inferred value.
-use bits::answer::Cursor;
-use bits::answer::Step;
-use fill::f;
-use fill::flag;
-use fill::mark;
+use bits::answer::*;
+use fill::*;
 ghost use mathlib.Core.Path.{_≡_};
 ghost use mathlib.Core.Bool.{_&&_};
 ghost use Prim.Native.Nat.{min};

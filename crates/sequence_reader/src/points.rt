@@ -1,12 +1,8 @@
 // 5.5.5 operating_parameters_info, and the operating points of 5.5.1, read.
-use crate::optional::f_if;
-use crate::optional::flag_if;
+use crate::optional::*;
 use crate::place;
-use bits::answer::Cursor;
-use bits::answer::Step;
-use fill::f;
-use fill::flag;
-use fill::mark;
+use bits::answer::*;
+use fill::*;
 ghost use Prim.Native.Nat.{min, _+_, _≤_};
 ghost use Rattle.fill.specs.Fills.{Fills};
 ghost use Rattle.sequence.specs.Points.{operating-parameters-info, point-model, point-delay, point-rest, operating-point, reduced-point, points};

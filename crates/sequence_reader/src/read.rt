@@ -1,15 +1,8 @@
 // The public calls: a sequence header OBU, read, and its payload.
 use crate::body::sequence_header_obu;
 use crate::place;
-use bits::answer::Cursor;
-use bits::answer::Refusal;
-use bits::answer::Step;
-use bits::answer::why_step;
-use obu::read::GotHeader;
-use obu::read::obu_header;
-use obu::read::obu_size;
-use obu::read::trailing_bits;
-use obu::read::why_header;
+use bits::answer::*;
+use obu::read::*;
 use reader::rest;
 ghost use mathlib.Core.Path.{_≡_};
 ghost use Rattle.sequence_reader.specs.Reader.{Answers, Holds};

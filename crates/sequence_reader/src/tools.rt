@@ -1,12 +1,8 @@
 // The coding tools of 5.5.1, read.
-use crate::optional::f_if;
-use crate::optional::mark_if;
+use crate::optional::*;
 use crate::place;
-use bits::answer::Cursor;
-use bits::answer::Step;
-use fill::f;
-use fill::flag;
-use fill::mark;
+use bits::answer::*;
+use fill::*;
 ghost use Rattle.fill.specs.Fills.{Fills};
 ghost use Rattle.sequence.specs.Tools.{block-tools, hint-tools, choice, integer-mv, hint-bits, motion-tools, order-tools, full-tools, inter-tools, filter-tools};
 ghost use Rattle.sequence_reader.specs.Layouts as row;

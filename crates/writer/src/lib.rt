@@ -2,16 +2,10 @@
 pub mod number; // number.rt: the highest one of a number, and signs
 pub mod store; // store.rt: bits stored in bytes
 
-use crate::number::su_code;
-use crate::number::top_bit;
-use crate::store::put;
-use crate::store::put_bit;
-use bits::answer::Cursor;
-use bits::answer::LIMIT;
-use bits::answer::Refusal;
-use bits::answer::Step;
-use bits::number::pow2;
-use bits::number::smaller;
+use crate::number::*;
+use crate::store::*;
+use bits::answer::*;
+use bits::number::*;
 ghost use mathlib.Core.Path.{_≡_};
 ghost use lib.Dec.{ltb};
 ghost use Prim.Native.Nat.{min, _^_};
