@@ -1,12 +1,10 @@
 -- How a reading function meets its table: the laws of Said, by the table's forms.
 use mathlib.Core.Path.{_≡_, refl, sym, ap, _∙_}
 use mathlib.Core.List.{List}
-use mathlib.Core.Bool.{Bool, true, false, not}
-use Prim.Native.Nat.{ℕ, _-_, _<_, _≤_, max}
+use mathlib.Core.Bool.{Bool, true, false}
+use Prim.Native.Nat.{ℕ, _-_, max}
 use native.Mathlib.Omega.{arith}
 use lib.ListN.{length}
-use lib.Dec.{ltb, eqb}
-use borrow.Author.Tests.{lt-ltb, le-ltb, eq-eqb, ne-eqb, not-true, not-false}
 use Rattle.bits.specs.Bits.{Bits, from, end}
 use Rattle.bits.specs.Codec.{Codec, Got, got, stop, andThen, choose, absent, inferred, inferredFlag, allowed, checked, via, recode, merged, _▷_, nil}
 use Rattle.bits.specs.Answers.{Result, value, refused, why, made, Form, found, moved, Reads, Said, said, Reading, reading, Completes, completes}
@@ -124,25 +122,6 @@ module _ {A C : Type 0} (b : Bool) (t u : Codec A) {make : A → C} {xs : List �
   unfolding choose
   no h (reading g) = reading (record { finds = rw h (g .finds); moves = g .moves })
 
-  pub yes-not : not b ≡ false → Reading make t xs c r → Reading make (choose b t u) xs c r
-  yes-not h s = yes (not-false b h) s
-
-  pub no-not : not b ≡ true → Reading make u xs c r → Reading make (choose b t u) xs c r
-  no-not h s = no (not-true b h) s
-
-module _ {A C : Type 0} (m n : ℕ) (t u : Codec A) {make : A → C} {xs : List ℕ} {c : Cursor} {r : Result C} where
-  pub yes-lt : m < n → Reading make t xs c r → Reading make (choose (ltb m n) t u) xs c r
-  yes-lt h s = yes (ltb m n) t u (lt-ltb m n h) s
-
-  pub no-lt : n ≤ m → Reading make u xs c r → Reading make (choose (ltb m n) t u) xs c r
-  no-lt h s = no (ltb m n) t u (le-ltb m n h) s
-
-  pub yes-eq : m ≡ n → Reading make t xs c r → Reading make (choose (eqb m n) t u) xs c r
-  yes-eq h s = yes (eqb m n) t u (eq-eqb m n h) s
-
-  pub no-eq : (m ≡ n → ⊥) → Reading make u xs c r → Reading make (choose (eqb m n) t u) xs c r
-  no-eq h s = no (eqb m n) t u (ne-eqb m n h) s
-
 -- what is not coded
 module _ {A : Type 0} (z : A) {xs : List ℕ} {p : Cursor} where
   none : Reads (absent z .dec) xs p (value z p)
@@ -152,16 +131,10 @@ module _ {A : Type 0} (z : A) {xs : List ℕ} {p : Cursor} where
   pub nothing : {C : Type 0} {make : A → C} {c : C} → c ≡ make z → Reading make (absent z) xs p (value c p)
   nothing {make = make} h = read-last make none h
 
-  pub nothing-on : {B C : Type 0} (k : A → Codec B) {make : A × B → C} {r : Result C} → Reading (λ b. make (z, b)) (k z) xs p r → Reading make (absent z ▷ k) xs p r
-  nothing-on k {make} s = read-on (absent z) k make none s
-
 module _ (e i x : ℕ) {xs : List ℕ} {p : Cursor} where
   fixed : Reads (inferred e i x .dec) xs p (value x p)
   unfolding inferred found moved
   fixed = record { finds = refl; moves = refl }
-
-  pub known : {C : Type 0} {make : ℕ → C} {c : C} → c ≡ make x → Reading make (inferred e i x) xs p (value c p)
-  known {make = make} h = read-last make fixed h
 
   pub known-on : {B C : Type 0} (k : ℕ → Codec B) {make : ℕ × B → C} {r : Result C} → Reading (λ b. make (x, b)) (k x) xs p r → Reading make (inferred e i x ▷ k) xs p r
   known-on k {make} s = read-on (inferred e i x) k make fixed s
@@ -171,16 +144,9 @@ module _ (e i : ℕ) (x : Bool) {xs : List ℕ} {p : Cursor} where
   unfolding inferredFlag found moved
   fixed-flag = record { finds = refl; moves = refl }
 
-  pub known-flag : {C : Type 0} {make : Bool → C} {c : C} → c ≡ make x → Reading make (inferredFlag e i x) xs p (value c p)
-  known-flag {make = make} h = read-last make fixed-flag h
-
   pub known-flag-on : {B C : Type 0} (k : Bool → Codec B) {make : Bool × B → C} {r : Result C}
       → Reading (λ b. make (x, b)) (k x) xs p r → Reading make (inferredFlag e i x ▷ k) xs p r
   known-flag-on k {make} s = read-on (inferredFlag e i x) k make fixed-flag s
-
--- the answer of a call, passed on
-pub pass : {G A : Type 0} {v : Form G A} (t : Codec A) {xs : List ℕ} {c : Cursor} {g : G} {r : Result A} → Said v (t .dec) xs c g → r ≡ v .view g → Reading (λ (a : A). a) t xs c r
-pass t {xs} {c} (said g) h = rw h (reading (record { finds = whole (t .dec (from xs (c .at))) ∙ g .finds; moves = g .moves }))
 
 -- the rest, left to a function
 pub pass-rest : {G A B : Type 0} {v : Form G B} {make : A → B} {t : Codec A} {xs : List ℕ} {c : Cursor} {g : G} {r : Result B}
@@ -192,30 +158,6 @@ pub then-checked : {A C : Type 0} (test : A → Bool) (z : Refusal) (t : Codec A
     → Reading make t xs c r → Reading make (checked test z t) xs c r
 unfolding checked
 then-checked test z t (reading g) = reading (record { finds = g .finds; moves = g .moves })
-
--- a choice by a test that a function makes, with the answer a
-module _ {G A B C : Type 0} {v : Form G A} {a : Bool} (b : Bool) (t u : Codec A) {xs : List ℕ} {p : Cursor} {g : G} where
-  pub on-by : (k : A → Codec B) {make : A × B → C} {w : A} {q : Cursor} {r : Result C}
-      → a ≡ b → Said v (choose a t u .dec) xs p g → g ≡ v .val w q → Reading (λ b. make (w, b)) (k w) xs q r → Reading make (choose b t u ▷ k) xs p r
-  on-by k h s e r = on (choose b t u) k (rw h at s) e r
-
-  pub halt-by : (k : A → Codec B) {make : A × B → C} {y z : Refusal}
-      → a ≡ b → Said v (choose a t u .dec) xs p g → g ≡ v .ref z → y ≡ why (v .view g) → Reading make (choose b t u ▷ k) xs p (refused y)
-  halt-by k h s e w = halt (choose b t u) k (rw h at s) e w
-
-module _ {G A C : Type 0} {v : Form G A} {a : Bool} (b : Bool) (t u : Codec A) {make : A → C} {xs : List ℕ} {p : Cursor} {g : G} where
-  pub last-by : {w : A} {q : Cursor} {c : C} → a ≡ b → Said v (choose a t u .dec) xs p g → g ≡ v .val w q → c ≡ make w → Reading make (choose b t u) xs p (value c q)
-  last-by h s e w = last (choose b t u) (rw h at s) e w
-
-  pub last-no-by : {y z : Refusal} → a ≡ b → Said v (choose a t u .dec) xs p g → g ≡ v .ref z → y ≡ why (v .view g) → Reading make (choose b t u) xs p (refused y)
-  last-no-by h s e w = last-no (choose b t u) (rw h at s) e w
-
-module _ {A C : Type 0} {a : Bool} (b : Bool) (t u : Codec A) {make : A → C} {xs : List ℕ} {c : Cursor} {r : Result C} where
-  pub yes-by : a ≡ b → a ≡ true → Reading make t xs c r → Reading make (choose b t u) xs c r
-  yes-by h e s = yes b t u (sym h ∙ e) s
-
-  pub no-by : a ≡ b → a ≡ false → Reading make u xs c r → Reading make (choose b t u) xs c r
-  no-by h e s = no b t u (sym h ∙ e) s
 
 -- a struct inside a table, and a group of steps, read in place
 abbrev both : {A B : Type 0} → A → Got B → Got (A × B)
@@ -286,15 +228,12 @@ got-remade : {A B : Type 0} (x : Got A) {make make′ : A → B} → ((a : A) �
 got-remade (got a rest) h = ap (λ (b : _). got b rest) (h a)
 got-remade (stop r) h = refl
 
-remade : {A B : Type 0} {t : Codec A} {make make′ : A → B} {xs : List ℕ} {c : Cursor} {r : Result B} → ((a : A) → make a ≡ make′ a) → Reading make t xs c r → Reading make′ t xs c r
-remade {t = t} {xs = xs} {c} h (reading g) = reading (record { finds = sym (got-remade (t .dec (from xs (c .at))) h) ∙ g .finds; moves = g .moves })
+pub remade : {A B : Type 0} {t : Codec A} {make make′ : A → B} {xs : List ℕ} {c : Cursor} {r : Result B} → ((a : A) → make′ a ≡ make a) → Reading make t xs c r → Reading make′ t xs c r
+remade {t = t} {xs = xs} {c} h (reading g) = reading (record { finds = got-remade (t .dec (from xs (c .at))) h ∙ g .finds; moves = g .moves })
 
 pub left-remade : {A B : Type 0} {d : Bits → Got B} {xs : List ℕ} {c p : Cursor} {t : Codec A} {make make′ : A → B}
     → ((a : A) → make a ≡ make′ a) → Left d xs c t p make → Left d xs c t p make′
-left-remade h l = record { rest = λ r s. l .rest r (remade (λ a. sym (h a)) s) }
+left-remade h l = record { rest = λ r s. l .rest r (remade h s) }
 
 -- A reading function of up to four steps: `search readings depth 14`
-pub ruleset readings = (then-checked, struct-on, group-on, start, completes, struct, recoded, one-of, on, halt, last, last-no, yes, no, yes-not, no-not, yes-lt, no-lt, yes-eq, no-eq, nothing, known, known-flag, nothing-on, known-on, known-flag-on, pass, pass-rest)
-
--- with tests that functions make
-pub ruleset readings-by = (readings, on-by, halt-by, last-by, last-no-by, yes-by, no-by)
+pub ruleset readings = (start, completes, struct, on, halt, last, last-no, yes, no, nothing, pass-rest)

@@ -16,7 +16,7 @@ use Rattle.bits.specs.declared.answer.Step.{Step}
 use Rattle.bits.specs.declared.answer.Step.the-variants.{Next, Refused}
 use Rattle.bits.proofs.Laws.{stop-got, got-value, got-rest}
 use Rattle.bits.proofs.Reading as reading
-use Rattle.bits.proofs.Reading.{reads-only, is, is-not, read-on, read-halt, read-last, read-no}
+use Rattle.bits.proofs.Reading.{reads-only, is, is-not, read-on, read-halt, read-last, read-no, remade}
 use Rattle.fill.specs.Fills.{Way, Layout, made, at, whole, _▸_, _∥_, of, beside, Fills, fills}
 
 -- One answer: two steps that the contract allows are equal, and so is what they leave, where they are not refused.
@@ -90,13 +90,6 @@ pub begin : {A M : Type 0} {l : Layout M A} (t : Codec A) {xs : List ℕ} {c : C
 begin t (laid (reading r)) = fills r
 
 -- a struct, alone and before other parts; parts that are grouped
-got-remade : {A B : Type 0} (x : Got A) {make make′ : A → B} → ((a : A) → make a ≡ make′ a) → andThen x (λ a rest. got (make a) rest) ≡ andThen x (λ a rest. got (make′ a) rest)
-got-remade (got a rest) h = ap (λ (b : _). got b rest) (h a)
-got-remade (stop r) h = refl
-
-remade : {A B : Type 0} {t : Codec A} {make make′ : A → B} {xs : List ℕ} {c : Cursor} {r : Result B} → ((a : A) → make′ a ≡ make a) → Reading make t xs c r → Reading make′ t xs c r
-remade {t = t} {xs = xs} {c} h (reading g) = reading (record { finds = got-remade (t .dec (from xs (c .at))) h ∙ g .finds; moves = g .moves })
-
 module _ {A B M : Type 0} (out : B → A) (back : A → B) (l : Layout M A) (t : Codec A) {xs : List ℕ} {c : Cursor} {s : Step} {m z : M} (e : (a : A) → out (back a) ≡ a) where
   pub struct : Laid l t xs c s m z → Laid (of out back l) (via out back t) xs c s m z
   unfolding of

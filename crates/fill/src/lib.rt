@@ -1,7 +1,6 @@
 // The codes of 4.10 read into a place.
 use bits::answer::*;
 use bits::number::smaller;
-ghost use mathlib.Core.Path.{_≡_};
 ghost use Prim.Native.Nat.{min};
 ghost use Rattle.bits.specs.Codec.{f, flag};
 ghost use Rattle.bits.specs.Codes.{uvlc, su};

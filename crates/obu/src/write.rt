@@ -3,11 +3,9 @@ use crate::header::ObuHeader;
 use bits::answer::*;
 use bits::element::*;
 use writer::*;
-ghost use mathlib.Core.Path.{_≡_};
 ghost use Rattle.bits.specs.Walk.{Walked, field};
 ghost use Rattle.obu.specs.Header.{expected-type, obu-extension-header, extension-of, header-end, end-of, obu-header};
-ghost use Rattle.bits.specs.Answers.{capped};
-ghost use Rattle.obu.specs.Framing.{obu-size, bytesFor, trailing-bits};
+ghost use Rattle.obu.specs.Framing.{obu-size, trailing-bits};
 
 // A bit that is always 0.
 fn zero(out: &mut [u8], c: Cursor) -> Step
@@ -76,13 +74,6 @@ pub fn obu_header(out: &mut [u8], c: Cursor, h: ObuHeader, t: u32) -> Step
         return s;
     };
     header_end(out, c, h)
-}
-
-// How many bytes a payload of n bits takes with its trailing bits.
-pub fn payload_bytes(n: usize) -> u32
-    ensures { λ r. ⌜ r ≡ capped (bytesFor n) ⌝ }
-{
-    capped(n / 8 + 1)
 }
 
 // The size, if flagged.

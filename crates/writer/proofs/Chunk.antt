@@ -13,7 +13,7 @@ use lib.Seq.{set-out, set-set, getD-set-same, set-getD}
 use borrow.Author.Tests.{lt-ltb}
 use mir.Val.{boolByte}
 use mathlib.Core.Bool.{Bool, true, false}
-use Rattle.bits.specs.Bits.{bit, bitAt, toBits, put, setBit, withBit, weight, limit}
+use Rattle.bits.specs.Bits.{bit, bitAt, toBits, put, setBit, withBit, limit}
 use Rattle.writer.specs.Blend.{blend}
 use Rattle.bits.proofs.Numbers.{length-toBits, bit-of-two}
 use Rattle.bits.proofs.Storing.{below-or, put-append, put-far, put-none, length-setBit}

@@ -1,21 +1,20 @@
 -- The codes of su(n) as the code computes them.
-use mathlib.Core.Path.{_≡_, refl, ap, _∙_}
+use mathlib.Core.Path.{_≡_}
 use mathlib.Core.List.{List}
 use mathlib.Core.Bool.{true, false}
-use Prim.Native.Nat.{ℕ, zero, suc, _+_, _-_, _*_, _^_, _≤_, _<_, min}
-use native.Mathlib.Nat.{zero-add}
+use Prim.Native.Nat.{ℕ, suc, _+_, _-_, _*_, _^_, _≤_, _<_, min}
 use native.Mathlib.Omega.{arith}
-use lib.IntN.{ℤ, pos, negsuc, natAbs, _-ℤ_}
-use lib.Signed.{mag, ltZ, nonNeg}
+use lib.IntN.{ℤ, pos, negsuc}
+use lib.Signed.{mag, ltZ}
 use lib.Dec.{leb, T}
 use lib.Pow.{pow-mono}
 use mir.Syntax.{Width, w32}
-use mir.Val.{Fits, SFits, toZ, ofZ, hbits}
-use mir.Facts.{toZ-ofZ, toZ-pos, sfits-widen}
+use mir.Val.{SFits, toZ, ofZ, hbits}
+use mir.Facts.{sfits-widen}
 use borrow.Author.Tests.{lt-ltb, le-ltb, le-leb, lt-leb, ltb-true}
 use Rattle.bits.specs.Walk.{field, Walked}
 use Rattle.bits.specs.Codec.{f, recode}
-use Rattle.bits.specs.Codes.{su-out, su-in, su}
+use Rattle.bits.specs.Codes.{su-out, su}
 use Rattle.bits.specs.declared.answer.Cursor.{Cursor}
 use Rattle.bits.specs.declared.answer.Step.{Step}
 use Rattle.bits.proofs.Signs.{same, widened}

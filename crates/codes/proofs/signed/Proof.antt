@@ -1,9 +1,4 @@
-use mathlib.Core.Path.{_≡_}
-use Prim.Native.Nat.{_<_, _^_}
-use lib.IntN.{pos, negsuc, _-ℤ_}
-use lib.Signed.{mag}
 use mir.Syntax.{w32}
-use mir.Val.{toZ, ofZ}
 use native.Mathlib.Omega.{arith}
 use borrow.Author.Needs.{needs}
 use Rattle.bits.proofs.Signs.{flip-fits, flip-is, keep-is}
