@@ -1,4 +1,5 @@
 pub mod Layouts
+pub mod Places
 pub mod Tails
 pub mod Reader
 pub mod Payload

@@ -10,6 +10,7 @@ use fill::*;
 ghost use Rattle.fill.specs.Fills.{Fills, whole};
 ghost use Rattle.sequence.specs.Sequence.{profile, color-and-grain, tools-and-color, body, sequence-header-obu};
 ghost use Rattle.sequence_reader.specs.Layouts as row;
+ghost use Rattle.sequence_reader.specs.Places as place;
 
 fn profile(s: &[u8], c: Cursor, v: &mut u32) -> Step
     ensures { λ r. ⌜ Fills whole (profile .dec) (now (s .entry)) c r (now (v .entry)) (now (v .exit)) ⌝ }
@@ -25,7 +26,7 @@ fn profile(s: &[u8], c: Cursor, v: &mut u32) -> Step
 }
 
 fn color_and_grain(s: &[u8], c: Cursor, profile: u32, n: &mut [u32; 347]) -> Step
-    ensures { λ r. ⌜ Fills (row.color-and-grain .from 334) (color-and-grain profile .dec) (now (s .entry)) c r (now (n .entry)) (now (n .exit)) ⌝ }
+    ensures { λ r. ⌜ Fills (row.color-and-grain .from place.color-config) (color-and-grain profile .dec) (now (s .entry)) c r (now (n .entry)) (now (n .exit)) ⌝ }
 {
     let t = color_config(s, c, profile, n);
     let Step::Next(c) = t else {
@@ -35,7 +36,7 @@ fn color_and_grain(s: &[u8], c: Cursor, profile: u32, n: &mut [u32; 347]) -> Ste
 }
 
 fn tools_and_color(s: &[u8], c: Cursor, profile: u32, reduced: bool, n: &mut [u32; 347]) -> Step
-    ensures { λ r. ⌜ Fills (row.tools-and-color .from 315) (tools-and-color profile reduced .dec) (now (s .entry)) c r (now (n .entry)) (now (n .exit)) ⌝ }
+    ensures { λ r. ⌜ Fills (row.tools-and-color .from place.tools) (tools-and-color profile reduced .dec) (now (s .entry)) c r (now (n .entry)) (now (n .exit)) ⌝ }
 {
     let t = block_tools(s, c, n);
     let Step::Next(c) = t else {
@@ -53,7 +54,7 @@ fn tools_and_color(s: &[u8], c: Cursor, profile: u32, reduced: bool, n: &mut [u3
 }
 
 fn body(s: &[u8], c: Cursor, profile: u32, reduced: bool, n: &mut [u32; 347]) -> Step
-    ensures { λ r. ⌜ Fills (row.body .from 8) (body profile reduced .dec) (now (s .entry)) c r (now (n .entry)) (now (n .exit)) ⌝ }
+    ensures { λ r. ⌜ Fills (row.body .from place.general) (body profile reduced .dec) (now (s .entry)) c r (now (n .entry)) (now (n .exit)) ⌝ }
 {
     let t = general(s, c, reduced, n);
     let Step::Next(c) = t else {
@@ -71,7 +72,7 @@ fn body(s: &[u8], c: Cursor, profile: u32, reduced: bool, n: &mut [u32; 347]) ->
 }
 
 pub fn sequence_header_obu(s: &[u8], c: Cursor, n: &mut [u32; 347]) -> Step
-    ensures { λ r. ⌜ Fills (row.sequence .from 5) (sequence-header-obu .dec) (now (s .entry)) c r (now (n .entry)) (now (n .exit)) ⌝ }
+    ensures { λ r. ⌜ Fills (row.sequence .from place.sequence) (sequence-header-obu .dec) (now (s .entry)) c r (now (n .entry)) (now (n .exit)) ⌝ }
 {
     let mut seq_profile = 0;
     let t = profile(s, c, &mut seq_profile);

@@ -10,6 +10,7 @@ ghost use Rattle.fill.specs.Fills.{Fills, whole, _▸_, _∥_};
 ghost use Rattle.sequence.specs.Optional.{f-if, flag-if};
 ghost use Rattle.sequence.specs.Color.{color-values, sampling, mono-planes, srgb-planes, other-planes, planes, color-rest, color-config};
 ghost use Rattle.sequence_reader.specs.Layouts as row;
+ghost use Rattle.sequence_reader.specs.Places as place;
 
 fn color_values(
     s: &[u8],
@@ -53,7 +54,7 @@ fn chroma_sample_position(s: &[u8], c: Cursor, x: bool, y: bool, v: &mut u32) ->
 }
 
 fn sampling(s: &[u8], c: Cursor, profile: u32, twelve: bool, n: &mut [u32; 347]) -> Step
-    ensures { λ r. ⌜ Fills (row.sampling .from 342) (sampling profile twelve .dec) (now (s .entry)) c r (now (n .entry)) (now (n .exit)) ⌝ }
+    ensures { λ r. ⌜ Fills (row.sampling .from place.sampling) (sampling profile twelve .dec) (now (s .entry)) c r (now (n .entry)) (now (n .exit)) ⌝ }
 {
     let mut x = false;
     let t = flag_if(s, c, twelve, profile != 1, &mut x);
@@ -71,7 +72,7 @@ fn sampling(s: &[u8], c: Cursor, profile: u32, twelve: bool, n: &mut [u32; 347])
 }
 
 fn mono_planes(s: &[u8], c: Cursor, n: &mut [u32; 347]) -> Step
-    ensures { λ r. ⌜ Fills (row.planes .from 341) (mono-planes .dec) (now (s .entry)) c r (now (n .entry)) (now (n .exit)) ⌝ }
+    ensures { λ r. ⌜ Fills (row.planes .from place.planes) (mono-planes .dec) (now (s .entry)) c r (now (n .entry)) (now (n .exit)) ⌝ }
 {
     let t = mark(s, c, &mut n[place::COLOR_RANGE]);
     let Step::Next(c) = t else {
@@ -85,7 +86,7 @@ fn mono_planes(s: &[u8], c: Cursor, n: &mut [u32; 347]) -> Step
 }
 
 fn srgb_planes(s: &[u8], c: Cursor, n: &mut [u32; 347]) -> Step
-    ensures { λ r. ⌜ Fills (row.planes .from 341) (srgb-planes .dec) (now (s .entry)) c r (now (n .entry)) (now (n .exit)) ⌝ }
+    ensures { λ r. ⌜ Fills (row.planes .from place.planes) (srgb-planes .dec) (now (s .entry)) c r (now (n .entry)) (now (n .exit)) ⌝ }
 {
     n[place::COLOR_RANGE] = 1;
     n[place::SUBSAMPLING_X] = 0;
@@ -95,7 +96,7 @@ fn srgb_planes(s: &[u8], c: Cursor, n: &mut [u32; 347]) -> Step
 }
 
 fn other_planes(s: &[u8], c: Cursor, profile: u32, twelve: bool, n: &mut [u32; 347]) -> Step
-    ensures { λ r. ⌜ Fills (row.planes .from 341) (other-planes profile twelve .dec) (now (s .entry)) c r (now (n .entry)) (now (n .exit)) ⌝ }
+    ensures { λ r. ⌜ Fills (row.planes .from place.planes) (other-planes profile twelve .dec) (now (s .entry)) c r (now (n .entry)) (now (n .exit)) ⌝ }
 {
     let t = mark(s, c, &mut n[place::COLOR_RANGE]);
     let Step::Next(c) = t else {
@@ -117,7 +118,7 @@ fn planes(
     srgb: bool,
     n: &mut [u32; 347],
 ) -> Step
-    ensures { λ r. ⌜ Fills (row.planes .from 341) (planes profile twelve mono srgb .dec) (now (s .entry)) c r (now (n .entry)) (now (n .exit)) ⌝ }
+    ensures { λ r. ⌜ Fills (row.planes .from place.planes) (planes profile twelve mono srgb .dec) (now (s .entry)) c r (now (n .entry)) (now (n .exit)) ⌝ }
 {
     if mono {
         return mono_planes(s, c, n);
@@ -136,7 +137,7 @@ fn color_rest(
     mono: bool,
     n: &mut [u32; 347],
 ) -> Step
-    ensures { λ r. ⌜ Fills (row.color-description .from 337 ▸ row.planes .from 341) (color-rest profile twelve mono .dec) (now (s .entry)) c r (now (n .entry)) (now (n .exit)) ⌝ }
+    ensures { λ r. ⌜ Fills (row.color-description .from place.color-description ▸ row.planes .from place.planes) (color-rest profile twelve mono .dec) (now (s .entry)) c r (now (n .entry)) (now (n .exit)) ⌝ }
 {
     let mut present = false;
     let t = flag(s, c, &mut present);
@@ -166,7 +167,7 @@ fn twelve_bit(s: &[u8], c: Cursor, profile: u32, high: bool, v: &mut bool) -> St
 }
 
 pub fn color_config(s: &[u8], c: Cursor, profile: u32, n: &mut [u32; 347]) -> Step
-    ensures { λ r. ⌜ Fills (row.color-config .from 334) (color-config profile .dec) (now (s .entry)) c r (now (n .entry)) (now (n .exit)) ⌝ }
+    ensures { λ r. ⌜ Fills (row.color-config .from place.color-config) (color-config profile .dec) (now (s .entry)) c r (now (n .entry)) (now (n .exit)) ⌝ }
 {
     let mut high = false;
     let t = flag(s, c, &mut high);

@@ -8,6 +8,7 @@ ghost use Rattle.fill.specs.Fills.{Fills};
 ghost use Rattle.fill.specs.Rows.{word, _&_};
 ghost use Rattle.sequence.specs.Frame.{max-frame-size, frame-size, frame-ids};
 ghost use Rattle.sequence_reader.specs.Layouts as row;
+ghost use Rattle.sequence_reader.specs.Places as place;
 
 fn max_frame_size(
     s: &[u8],
@@ -17,7 +18,7 @@ fn max_frame_size(
     n: &mut [u32; 347],
 ) -> Step
     requires { ⌜ («width_bits» + 1 ≤ 32) × («height_bits» + 1 ≤ 32) ⌝ }
-    ensures { λ r. ⌜ Fills ((word & word) .from 310) (max-frame-size «width_bits» «height_bits» .dec) (now (s .entry)) c r (now (n .entry)) (now (n .exit)) ⌝ }
+    ensures { λ r. ⌜ Fills ((word & word) .from place.max-frame-size) (max-frame-size «width_bits» «height_bits» .dec) (now (s .entry)) c r (now (n .entry)) (now (n .exit)) ⌝ }
 {
     let t = f(s, c, width_bits + 1, &mut n[place::MAX_FRAME_WIDTH_MINUS_1]);
     let Step::Next(c) = t else {
@@ -32,7 +33,7 @@ fn max_frame_size(
 }
 
 pub fn frame_size(s: &[u8], c: Cursor, n: &mut [u32; 347]) -> Step
-    ensures { λ r. ⌜ Fills (row.frame-size .from 308) (frame-size .dec) (now (s .entry)) c r (now (n .entry)) (now (n .exit)) ⌝ }
+    ensures { λ r. ⌜ Fills (row.frame-size .from place.frame-size) (frame-size .dec) (now (s .entry)) c r (now (n .entry)) (now (n .exit)) ⌝ }
 {
     let mut width_bits = 0;
     let t = f(s, c, 4, &mut width_bits);
@@ -50,7 +51,7 @@ pub fn frame_size(s: &[u8], c: Cursor, n: &mut [u32; 347]) -> Step
 }
 
 pub fn frame_ids(s: &[u8], c: Cursor, reduced: bool, n: &mut [u32; 347]) -> Step
-    ensures { λ r. ⌜ Fills (row.frame-ids .from 312) (frame-ids reduced .dec) (now (s .entry)) c r (now (n .entry)) (now (n .exit)) ⌝ }
+    ensures { λ r. ⌜ Fills (row.frame-ids .from place.frame-ids) (frame-ids reduced .dec) (now (s .entry)) c r (now (n .entry)) (now (n .exit)) ⌝ }
 {
     let mut present = false;
     let t = flag_if(s, c, !reduced, false, &mut present);

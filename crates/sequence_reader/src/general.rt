@@ -10,6 +10,7 @@ ghost use Rattle.fill.specs.Rows.{flag};
 ghost use Rattle.sequence.specs.Timing.{ticks-per-picture, timing-info, timing-info-if};
 ghost use Rattle.sequence.specs.Sequence.{full-general, general};
 ghost use Rattle.sequence_reader.specs.Layouts as row;
+ghost use Rattle.sequence_reader.specs.Places as place;
 ghost use Rattle.sequence_reader.specs.Tails.{model-if, model-points, with-model, model-rest, model-rest-row};
 
 fn ticks_per_picture(s: &[u8], c: Cursor, equal: bool, v: &mut u32) -> Step
@@ -23,7 +24,7 @@ fn ticks_per_picture(s: &[u8], c: Cursor, equal: bool, v: &mut u32) -> Step
 }
 
 fn timing_info(s: &[u8], c: Cursor, n: &mut [u32; 347]) -> Step
-    ensures { λ r. ⌜ Fills (row.timing-info .from 9) (timing-info .dec) (now (s .entry)) c r (now (n .entry)) (now (n .exit)) ⌝ }
+    ensures { λ r. ⌜ Fills (row.timing-info .from place.timing-info) (timing-info .dec) (now (s .entry)) c r (now (n .entry)) (now (n .exit)) ⌝ }
 {
     let t = f(s, c, 32, &mut n[place::NUM_UNITS_IN_DISPLAY_TICK]);
     let Step::Next(c) = t else {
@@ -43,7 +44,7 @@ fn timing_info(s: &[u8], c: Cursor, n: &mut [u32; 347]) -> Step
 }
 
 fn timing_info_if(s: &[u8], c: Cursor, present: bool, n: &mut [u32; 347]) -> Step
-    ensures { λ r. ⌜ Fills (row.timing-info .from 9) (timing-info-if present .dec) (now (s .entry)) c r (now (n .entry)) (now (n .exit)) ⌝ }
+    ensures { λ r. ⌜ Fills (row.timing-info .from place.timing-info) (timing-info-if present .dec) (now (s .entry)) c r (now (n .entry)) (now (n .exit)) ⌝ }
 {
     if present {
         return timing_info(s, c, n);
@@ -57,7 +58,7 @@ fn timing_info_if(s: &[u8], c: Cursor, present: bool, n: &mut [u32; 347]) -> Ste
 
 // The decoder model behind its first field.
 fn model_rest(s: &[u8], c: Cursor, n: &mut [u32; 347]) -> Step
-    ensures { λ r. ⌜ Fills (model-rest-row .from 15) (model-rest .dec) (now (s .entry)) c r (now (n .entry)) (now (n .exit)) ⌝ }
+    ensures { λ r. ⌜ Fills (model-rest-row .from place.model-rest) (model-rest .dec) (now (s .entry)) c r (now (n .entry)) (now (n .exit)) ⌝ }
 {
     let t = f(s, c, 32, &mut n[place::NUM_UNITS_IN_DECODING_TICK]);
     let Step::Next(c) = t else {
@@ -77,7 +78,7 @@ fn model_rest(s: &[u8], c: Cursor, n: &mut [u32; 347]) -> Step
 
 // The decoder model, and the points, whose buffer delays are as wide as it says.
 fn with_model(s: &[u8], c: Cursor, n: &mut [u32; 347]) -> Step
-    ensures { λ r. ⌜ Fills (row.decoder-model-info .from 14 ▸ row.points .from 18) (with-model .dec) (now (s .entry)) c r (now (n .entry)) (now (n .exit)) ⌝ }
+    ensures { λ r. ⌜ Fills (row.decoder-model-info .from place.decoder-model-info ▸ row.points .from place.points) (with-model .dec) (now (s .entry)) c r (now (n .entry)) (now (n .exit)) ⌝ }
 {
     let mut length_minus_1 = 0;
     let t = f(s, c, 5, &mut length_minus_1);
@@ -93,7 +94,7 @@ fn with_model(s: &[u8], c: Cursor, n: &mut [u32; 347]) -> Step
 }
 
 fn model_points(s: &[u8], c: Cursor, has_model: bool, n: &mut [u32; 347]) -> Step
-    ensures { λ r. ⌜ Fills (row.decoder-model-info .from 14 ▸ row.points .from 18) (model-points «has_model» .dec) (now (s .entry)) c r (now (n .entry)) (now (n .exit)) ⌝ }
+    ensures { λ r. ⌜ Fills (row.decoder-model-info .from place.decoder-model-info ▸ row.points .from place.points) (model-points «has_model» .dec) (now (s .entry)) c r (now (n .entry)) (now (n .exit)) ⌝ }
 {
     if has_model {
         return with_model(s, c, n);
@@ -107,7 +108,7 @@ fn model_points(s: &[u8], c: Cursor, has_model: bool, n: &mut [u32; 347]) -> Ste
 
 // From decoder_model_info_present_flag on.
 fn model_if(s: &[u8], c: Cursor, timed: bool, n: &mut [u32; 347]) -> Step
-    ensures { λ r. ⌜ Fills (flag .from 13 ▸ row.decoder-model-info .from 14 ▸ row.points .from 18) (model-if timed .dec) (now (s .entry)) c r (now (n .entry)) (now (n .exit)) ⌝ }
+    ensures { λ r. ⌜ Fills (flag .from place.model-present ▸ row.decoder-model-info .from place.decoder-model-info ▸ row.points .from place.points) (model-if timed .dec) (now (s .entry)) c r (now (n .entry)) (now (n .exit)) ⌝ }
 {
     let mut has_model = false;
     let t = flag_if(s, c, timed, false, &mut has_model);
@@ -119,7 +120,7 @@ fn model_if(s: &[u8], c: Cursor, timed: bool, n: &mut [u32; 347]) -> Step
 }
 
 fn full_general(s: &[u8], c: Cursor, n: &mut [u32; 347]) -> Step
-    ensures { λ r. ⌜ Fills (row.general .from 8) (full-general .dec) (now (s .entry)) c r (now (n .entry)) (now (n .exit)) ⌝ }
+    ensures { λ r. ⌜ Fills (row.general .from place.general) (full-general .dec) (now (s .entry)) c r (now (n .entry)) (now (n .exit)) ⌝ }
 {
     let mut timed = false;
     let t = flag(s, c, &mut timed);
@@ -136,7 +137,7 @@ fn full_general(s: &[u8], c: Cursor, n: &mut [u32; 347]) -> Step
 
 // With the reduced header there is one point, and nothing before it.
 pub fn general(s: &[u8], c: Cursor, reduced: bool, n: &mut [u32; 347]) -> Step
-    ensures { λ r. ⌜ Fills (row.general .from 8) (general reduced .dec) (now (s .entry)) c r (now (n .entry)) (now (n .exit)) ⌝ }
+    ensures { λ r. ⌜ Fills (row.general .from place.general) (general reduced .dec) (now (s .entry)) c r (now (n .entry)) (now (n .exit)) ⌝ }
 {
     if !reduced {
         return full_general(s, c, n);

@@ -7,6 +7,7 @@ ghost use Prim.Native.Nat.{min, _+_, _≤_};
 ghost use Rattle.fill.specs.Fills.{Fills};
 ghost use Rattle.sequence.specs.Points.{operating-parameters-info, point-model, point-delay, point-rest, operating-point, reduced-point, points};
 ghost use Rattle.sequence_reader.specs.Layouts as row;
+ghost use Rattle.sequence_reader.specs.Places as place;
 ghost use Rattle.sequence_reader.specs.Tails.{any-point, point-list};
 
 // A width over 32 counts as 32, here and below; the point's numbers begin at `at`.
@@ -175,7 +176,7 @@ pub fn operating_points(
     n: &mut [u32; 347],
 ) -> Step
     requires { ⌜ count ≤ 32 ⌝ }
-    ensures { λ r. ⌜ Fills (row.operating-points 20 count) (point-list reduced «has_model» (min width 32) «has_delay» count .dec) (now (s .entry)) c r (now (n .entry)) (now (n .exit)) ⌝ }
+    ensures { λ r. ⌜ Fills (row.operating-points place.operating-points count) (point-list reduced «has_model» (min width 32) «has_delay» count .dec) (now (s .entry)) c r (now (n .entry)) (now (n .exit)) ⌝ }
 {
     let mut p = c;
     let mut i = 0;
@@ -201,7 +202,7 @@ pub fn operating_points(
 
 // initial_display_delay_present_flag, operating_points_cnt_minus_1, and so many points.
 pub fn points(s: &[u8], c: Cursor, has_model: bool, width: u32, n: &mut [u32; 347]) -> Step
-    ensures { λ r. ⌜ Fills (row.points .from 18) (points «has_model» (min width 32) .dec) (now (s .entry)) c r (now (n .entry)) (now (n .exit)) ⌝ }
+    ensures { λ r. ⌜ Fills (row.points .from place.points) (points «has_model» (min width 32) .dec) (now (s .entry)) c r (now (n .entry)) (now (n .exit)) ⌝ }
 {
     let mut has_delay = false;
     let t = flag(s, c, &mut has_delay);

@@ -6,10 +6,11 @@ use fill::*;
 ghost use Rattle.fill.specs.Fills.{Fills};
 ghost use Rattle.sequence.specs.Tools.{block-tools, hint-tools, choice, integer-mv, hint-bits, motion-tools, order-tools, full-tools, inter-tools, filter-tools};
 ghost use Rattle.sequence_reader.specs.Layouts as row;
+ghost use Rattle.sequence_reader.specs.Places as place;
 ghost use Rattle.sequence_reader.specs.Tails.{choice-apart};
 
 pub fn block_tools(s: &[u8], c: Cursor, n: &mut [u32; 347]) -> Step
-    ensures { λ r. ⌜ Fills (row.block-tools .from 315) (block-tools .dec) (now (s .entry)) c r (now (n .entry)) (now (n .exit)) ⌝ }
+    ensures { λ r. ⌜ Fills (row.block-tools .from place.tools) (block-tools .dec) (now (s .entry)) c r (now (n .entry)) (now (n .exit)) ⌝ }
 {
     let t = mark(s, c, &mut n[place::USE_128X128_SUPERBLOCK]);
     let Step::Next(c) = t else {
@@ -23,7 +24,7 @@ pub fn block_tools(s: &[u8], c: Cursor, n: &mut [u32; 347]) -> Step
 }
 
 fn hint_tools(s: &[u8], c: Cursor, order_hint: bool, n: &mut [u32; 347]) -> Step
-    ensures { λ r. ⌜ Fills (row.hint-tools .from 323) (hint-tools «order_hint» .dec) (now (s .entry)) c r (now (n .entry)) (now (n .exit)) ⌝ }
+    ensures { λ r. ⌜ Fills (row.hint-tools .from place.hint-tools) (hint-tools «order_hint» .dec) (now (s .entry)) c r (now (n .entry)) (now (n .exit)) ⌝ }
 {
     let t = mark_if(s, c, order_hint, false, &mut n[place::ENABLE_JNT_COMP]);
     let Step::Next(c) = t else {
@@ -54,7 +55,7 @@ fn integer_mv(s: &[u8], c: Cursor, screen: u32, choose: &mut bool, force: &mut u
 }
 
 fn hint_bits(s: &[u8], c: Cursor, order_hint: bool, n: &mut [u32; 347]) -> Step
-    ensures { λ r. ⌜ Fills (row.hint-bits .from 329) (hint-bits «order_hint» .dec) (now (s .entry)) c r (now (n .entry)) (now (n .exit)) ⌝ }
+    ensures { λ r. ⌜ Fills (row.hint-bits .from place.hint-bits) (hint-bits «order_hint» .dec) (now (s .entry)) c r (now (n .entry)) (now (n .exit)) ⌝ }
 {
     if !order_hint {
         n[place::ORDER_HINT_BITS_MINUS_1] = 0;
@@ -73,7 +74,7 @@ fn hint_bits(s: &[u8], c: Cursor, order_hint: bool, n: &mut [u32; 347]) -> Step
 
 // The tools from seq_choose_screen_content_tools on.
 fn motion_tools(s: &[u8], c: Cursor, order_hint: bool, n: &mut [u32; 347]) -> Step
-    ensures { λ r. ⌜ Fills (row.motion-tools .from 325) (motion-tools «order_hint» .dec) (now (s .entry)) c r (now (n .entry)) (now (n .exit)) ⌝ }
+    ensures { λ r. ⌜ Fills (row.motion-tools .from place.motion-tools) (motion-tools «order_hint» .dec) (now (s .entry)) c r (now (n .entry)) (now (n .exit)) ⌝ }
 {
     let mut choose = false;
     let mut force = 0;
@@ -96,7 +97,7 @@ fn motion_tools(s: &[u8], c: Cursor, order_hint: bool, n: &mut [u32; 347]) -> St
 
 // The tools from enable_dual_filter on.
 fn order_tools(s: &[u8], c: Cursor, n: &mut [u32; 347]) -> Step
-    ensures { λ r. ⌜ Fills (row.order-tools .from 321) (order-tools .dec) (now (s .entry)) c r (now (n .entry)) (now (n .exit)) ⌝ }
+    ensures { λ r. ⌜ Fills (row.order-tools .from place.order-tools) (order-tools .dec) (now (s .entry)) c r (now (n .entry)) (now (n .exit)) ⌝ }
 {
     let t = mark(s, c, &mut n[place::ENABLE_DUAL_FILTER]);
     let Step::Next(c) = t else {
@@ -116,7 +117,7 @@ fn order_tools(s: &[u8], c: Cursor, n: &mut [u32; 347]) -> Step
 }
 
 fn full_tools(s: &[u8], c: Cursor, n: &mut [u32; 347]) -> Step
-    ensures { λ r. ⌜ Fills (row.inter-tools .from 318) (full-tools .dec) (now (s .entry)) c r (now (n .entry)) (now (n .exit)) ⌝ }
+    ensures { λ r. ⌜ Fills (row.inter-tools .from place.inter-tools) (full-tools .dec) (now (s .entry)) c r (now (n .entry)) (now (n .exit)) ⌝ }
 {
     let t = mark(s, c, &mut n[place::ENABLE_INTERINTRA_COMPOUND]);
     let Step::Next(c) = t else {
@@ -134,7 +135,7 @@ fn full_tools(s: &[u8], c: Cursor, n: &mut [u32; 347]) -> Step
 }
 
 pub fn inter_tools(s: &[u8], c: Cursor, reduced: bool, n: &mut [u32; 347]) -> Step
-    ensures { λ r. ⌜ Fills (row.inter-tools .from 318) (inter-tools reduced .dec) (now (s .entry)) c r (now (n .entry)) (now (n .exit)) ⌝ }
+    ensures { λ r. ⌜ Fills (row.inter-tools .from place.inter-tools) (inter-tools reduced .dec) (now (s .entry)) c r (now (n .entry)) (now (n .exit)) ⌝ }
 {
     if !reduced {
         return full_tools(s, c, n);
@@ -156,7 +157,7 @@ pub fn inter_tools(s: &[u8], c: Cursor, reduced: bool, n: &mut [u32; 347]) -> St
 }
 
 pub fn filter_tools(s: &[u8], c: Cursor, n: &mut [u32; 347]) -> Step
-    ensures { λ r. ⌜ Fills (row.filter-tools .from 331) (filter-tools .dec) (now (s .entry)) c r (now (n .entry)) (now (n .exit)) ⌝ }
+    ensures { λ r. ⌜ Fills (row.filter-tools .from place.filter-tools) (filter-tools .dec) (now (s .entry)) c r (now (n .entry)) (now (n .exit)) ⌝ }
 {
     let t = mark(s, c, &mut n[place::ENABLE_SUPERRES]);
     let Step::Next(c) = t else {
