@@ -1,4 +1,4 @@
 pub mod Hexes
-pub mod Puts
+pub mod Uppers
 pub mod RoundTrip
 pub mod Texts

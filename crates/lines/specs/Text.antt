@@ -1,11 +1,9 @@
 -- Text as numbers and bytes. A byte is its ASCII code.
-use mathlib.Core.Path.{_≡_}
 use mathlib.Core.Bool.{Bool, true, false, cond}
-use mathlib.Core.List.{List, [], _∷_, _++_}
-use Prim.Native.Nat.{ℕ, zero, suc, _+_, _-_, _*_, _^_, _≤_}
+use mathlib.Core.List.{List, [], _∷_}
+use Prim.Native.Nat.{ℕ, _+_, _-_, _*_, _^_}
 use lib.Dec.{ltb, leb, eqb}
 use lib.ListN.{length}
-use lib.Seq.{paste}
 use Rattle.lines.specs.declared.parse.Numeral.{Numeral}
 use Rattle.lines.specs.declared.parse.Numeral.the-variants.{Value, Bad}
 
@@ -18,10 +16,6 @@ begun (w ∷ word) (b ∷ s) = cond (eqb b w) (begun word s) false
 -- whether a text is a word
 unfoldable pub equal : List ℕ → List ℕ → Bool
 equal word s = cond (eqb (length s) (length word)) (begun word s) false
-
--- Where a slice has room for bytes behind a place, they are put there, and nothing else is changed. r is the place behind them.
-abbrev pub Put : List ℕ → ℕ → List ℕ → ℕ → List ℕ → Type 0
-Put out at s r after = at + length s ≤ length out → (r ≡ at + length s) × (after ≡ paste out at s (length s))
 
 -- the value of a decimal digit; 10 for any other byte
 abbrev pub decimal-digit : ℕ → ℕ

@@ -1,38 +1,14 @@
-// An answer, put together in a lent slice. Each function puts its bytes in from a place on, and answers the place behind them.
-// What the slice has no room for is dropped.
+// An answer, put together in a lent slice: text and numbers as words::put has them, bytes in hex, and the answer written out.
 use libc::STDOUT_FILENO;
+pub use words::put::byte;
+pub use words::put::decimal;
+pub use words::put::text;
 ghost use mathlib.Core.Path.{_≡_};
 ghost use mathlib.Core.List.{[], _∷_};
 ghost use Prim.Native.Nat.{_<_};
+ghost use Rattle.words.specs.Text.{Put};
 ghost use Rattle.lines.specs.Hex.{upper};
 ghost use Rattle.lines.specs.Hex.{glyph as Hex·glyph};
-ghost use Rattle.lines.specs.Text.{Put};
-
-pub fn byte(out: &mut [u8], at: usize, b: u8) -> usize
-    ensures { λ r. ⌜ Put (now (out .entry)) at (b ∷ []) r (now (out .exit)) ⌝ }
-{
-    if at < out.len() {
-        out[at] = b;
-        return at + 1;
-    }
-    at
-}
-
-pub fn text(out: &mut [u8], at: usize, s: &[u8]) -> usize
-    ensures { λ r. ⌜ Put (now (out .entry)) at (now (s .entry)) r (now (out .exit)) ⌝ }
-{
-    let mut end = at;
-    for i in 0..s.len() {
-        end = byte(out, end, s[i]);
-    }
-    end
-}
-
-pub fn decimal(out: &mut [u8], at: usize, n: u64) -> usize {
-    let mut digits = [0u8; 20];
-    let k = io::decimal(n, &mut digits);
-    text(out, at, &digits[..k])
-}
 
 // A digit of hex.
 fn glyph(d: u8) -> u8

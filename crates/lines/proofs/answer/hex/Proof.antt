@@ -4,8 +4,8 @@ use native.Mathlib.Omega.{arith}
 use lib.ListN.{length, take}
 use borrow.Author.Needs.{needs}
 use Rattle.lines.specs.Hex.{upper}
-use Rattle.lines.specs.Text.{Put}
-use Rattle.lines.proofs.Puts.{no-bytes, upper-next, upper-all}
+use Rattle.words.specs.Text.{Put}
+use Rattle.lines.proofs.Uppers.{no-bytes, upper-next, upper-all}
 use Rattle.lines.proofs.answer.hex.Statement.{statement}
 use Rattle.lines.proofs.answer.hex.Tie as tie
 

@@ -1,6 +1,6 @@
 use mathlib.Core.Path.{_≡_}
 use lib.ListN.{length}
-use Rattle.lines.proofs.Puts.{two-digits}
+use Rattle.lines.proofs.Uppers.{two-digits}
 use borrow.Author.Needs.{needs}
 use Rattle.lines.proofs.answer.hex_byte.Statement.{statement}
 use Rattle.lines.proofs.answer.hex_byte.Tie as tie

@@ -1,9 +1,9 @@
 use mathlib.Core.Path.{refl}
 use native.Mathlib.Omega.{arith}
-use Rattle.lines.proofs.Puts.{put-one}
+use Rattle.words.proofs.Puts.{put-one}
 use borrow.Author.Needs.{needs}
-use Rattle.lines.proofs.answer.byte.Statement.{statement}
-use Rattle.lines.proofs.answer.byte.Tie as tie
+use Rattle.words.proofs.put.byte.Statement.{statement}
+use Rattle.words.proofs.put.byte.Tie as tie
 
 slice-write-out : tie.Need-slice-write-out
 slice-write-out c = search needs

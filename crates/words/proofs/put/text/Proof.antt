@@ -1,12 +1,12 @@
-use mathlib.Core.Path.{_≡_, refl, sym, _∙_}
+use mathlib.Core.Path.{_≡_, refl}
 use Prim.Native.Nat.{_≤_, _+_, _-_}
 use native.Mathlib.Omega.{arith}
 use borrow.Author.Needs.{needs}
 use lib.ListN.{length}
 use lib.Seq.{paste, paste-zero}
-use Rattle.lines.proofs.Puts.{put-next, put-all}
-use Rattle.lines.proofs.answer.text.Statement.{statement}
-use Rattle.lines.proofs.answer.text.Tie as tie
+use Rattle.words.proofs.Puts.{put-next, put-all}
+use Rattle.words.proofs.put.text.Statement.{statement}
+use Rattle.words.proofs.put.text.Tie as tie
 
 abbrev Inv-loop : tie.InvT-loop
 Inv-loop out₀ at s end₀ i₀ i-end out end i =

@@ -1,14 +1,12 @@
 -- Bytes that are put into a slice, one after the other.
-use mathlib.Core.Path.{_≡_, refl, sym, _∙_, ap}
+use mathlib.Core.Path.{_≡_, sym, _∙_, ap}
 use mathlib.Core.List.{List, [], _∷_, _++_, append-assoc}
-use Prim.Native.Nat.{ℕ, zero, suc, _+_, _-_, _/_, _%_, _≤_, _<_}
-use native.Mathlib.Nat.{add-zero}
+use Prim.Native.Nat.{ℕ, suc, _+_, _-_, _≤_, _<_}
 use native.Mathlib.Numerals.{add-one}
 use native.Mathlib.Omega.{arith}
 use lib.ListN.{length, take, drop, getD, set, length-append}
-use lib.Seq.{paste, paste-zero, paste-suc, length-take-le, take-length, take-all, take-at, drop-at, drop-drop, take-suc}
-use Rattle.lines.specs.Text.{Put}
-use Rattle.lines.specs.Hex.{glyph, upper}
+use lib.Seq.{paste, paste-zero, paste-suc, length-take-le, take-length, take-at, drop-at, drop-drop}
+use Rattle.words.specs.Text.{Put}
 
 -- one byte
 pub put-one : (out : List ℕ) (at b : ℕ) → at < length out → set out at b ≡ paste out at (b ∷ []) 1
@@ -71,28 +69,3 @@ put-then out mid after at q r s t f len g room =
       b .1 ∙ ap (λ (l : List ℕ). paste l q t (length t)) (a .1)
           ∙ ap (λ (k : ℕ). paste (paste out at s (length s)) k t (length t)) (a .0) ∙ joined out at s t room,
     )
-
-upper-append : (s t : List ℕ) → upper (s ++ t) ≡ upper s ++ upper t
-unfolding upper
-upper-append [] t = refl
-upper-append (b ∷ s) t = rw (upper-append s t)
-
-pub no-bytes : (out : List ℕ) (at : ℕ) → Put out at (upper []) at out
-unfolding upper
-no-bytes out at = put-none out at
-
--- a byte's two digits
-pub two-digits : (out mid after : List ℕ) (at q r b h l : ℕ) → h ≡ glyph (b / 16) → l ≡ glyph (b % 16) → Put out at (h ∷ []) q mid → length mid ≡ length out
-    → Put mid q (l ∷ []) r after → Put out at (upper (b ∷ [])) r after
-unfolding upper
-two-digits out mid after at q r b h l e f p len o = rw (← e, ← f) (put-then out mid after at q r (h ∷ []) (l ∷ []) p len o)
-
--- the next byte in hex, where i were put; and the whole text
-module _ (out : List ℕ) (at : ℕ) (s : List ℕ) (i end : ℕ) (now : List ℕ) (inv : Put out at (upper (take i s)) end now) where
-  pub upper-next : (r : ℕ) (after : List ℕ) → i < length s → length now ≡ length out → Put now end (upper (getD s i 0 ∷ [])) r after
-      → Put out at (upper (take (i + 1) s)) r after
-  upper-next r after h len put =
-      rw (add-one, take-suc s i 0 h, upper-append) (put-then out now after at end r (upper (take i s)) (upper (getD s i 0 ∷ [])) inv len put)
-
-  pub upper-all : i ≡ length s → Put out at (upper s) end now
-  upper-all e = rw (take-all i s (omega arith)) at inv

@@ -1,0 +1,2 @@
+// Text for people.
+pub mod put; // put.rt: text into a lent slice
