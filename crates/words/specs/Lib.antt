@@ -1,1 +1,4 @@
+pub mod Listed
+pub mod Names
+pub mod Sentence
 pub mod Text

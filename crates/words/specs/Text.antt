@@ -3,9 +3,21 @@ use mathlib.Core.Path.{_≡_}
 use mathlib.Core.Bool.{cond}
 use mathlib.Core.List.{List, [], _∷_, _++_}
 use Prim.Native.Nat.{ℕ, zero, suc, _+_, _/_, _%_, _≤_}
-use lib.Dec.{ltb}
+use Prim.Native.Char.{code}
+use Prim.Native.String.{String, [] as end, _∷_ as _then_}
+use lib.Dec.{eqb, ltb}
 use lib.ListN.{length}
 use lib.Seq.{paste}
+
+-- the bytes of a text of ASCII
+abbrev pub codes : String → List ℕ
+codes end = []
+codes (c then s) = code c ∷ codes s
+
+-- the text beside a number in a table, or another
+unfoldable pub find : ℕ → List (ℕ × String) → List ℕ → List ℕ
+find n [] other = other
+find n ((k, s) ∷ rows) other = cond (eqb n k) (codes s) (find n rows other)
 
 -- a number in decimal, of at most so many digits
 unfoldable pub digits : ℕ → ℕ → List ℕ
