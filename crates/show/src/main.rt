@@ -6,8 +6,8 @@ use lines::answer::byte;
 use lines::answer::hex;
 use lines::answer::write;
 use listing::list::list;
+use listing::refusal::refusal;
 use listing::row::put_right;
-use listing::words::refusal;
 ghost use Prim.Native.Nat.{_<_, _≤_};
 
 fn smaller(a: usize, b: usize) -> usize

@@ -1,0 +1,18 @@
+// A refusal: document 01's number, and its sentence.
+use crate::out::decimal;
+use crate::out::text;
+use bits::answer::Refusal;
+use bits::answer::numbers;
+use lines::answer::write;
+use words::explain;
+
+pub fn refusal(r: Refusal) {
+    let n = numbers(r);
+    let mut sentence = [0u8; 80];
+    let length = explain(&[n.number, n.first, n.second, 0], &mut sentence);
+    text(b"refused ");
+    decimal(n.number);
+    text(b": ");
+    write(&sentence, length as usize);
+    text(b"\n");
+}
