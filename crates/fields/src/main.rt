@@ -1,7 +1,11 @@
 // Lists sequence headers: each line of standard input is an OBU in hex. A line that begins with `#` is copied; an empty one is passed over.
 use lines::input::Line;
-use lines::input::Rest;
+use lines::input::bytes_of;
+use lines::input::is_end;
+use lines::input::is_long;
 use lines::input::next_line;
+use lines::input::rest_of;
+use lines::input::start;
 use lines::parse::Bytes;
 use lines::parse::hex;
 use listing::list::list;
@@ -36,31 +40,26 @@ fn one_line(line: &[u8], bytes: &mut [u8]) {
     }
 }
 
-// The first n bytes of the slice are a line.
-fn whole(line: &[u8], n: usize, bytes: &mut [u8]) {
-    if n <= line.len() {
-        one_line(&line[0..n], bytes);
+// A line that is too long for the slice is bad.
+fn answer(line: &[u8], l: Line, bytes: &mut [u8]) {
+    if is_long(l) {
+        text(b"bad\n\n");
+    } else {
+        one_line(bytes_of(line, l), bytes);
     }
 }
 
-// A line that is too long for the slice is bad.
 fn all(chunk: &mut [u8], line: &mut [u8], bytes: &mut [u8]) {
-    let mut rest = Rest { at: 0, end: 0 };
+    let mut rest = start();
     let mut turns = u64::MAX;
     while 0 < turns {
         turns -= 1;
         let l = next_line(chunk, rest, line);
-        match l {
-            Line::Whole(n, next) => {
-                rest = next;
-                whole(line, n, bytes);
-            }
-            Line::Long(next) => {
-                rest = next;
-                text(b"bad\n\n");
-            }
-            Line::End => return,
+        if is_end(l) {
+            return;
         }
+        answer(line, l, bytes);
+        rest = rest_of(l);
     }
 }
 

@@ -3,7 +3,7 @@ use libc::STDIN_FILENO;
 ghost use Prim.Native.Nat.{_≤_};
 ghost use lib.ListN.{length};
 
-// What is left of the last chunk: its bytes from at to end. Nothing is, at the start: at and end are 0.
+// What is left of the last chunk: its bytes from at to end.
 pub struct Rest {
     pub at: usize,
     pub end: usize,
@@ -131,4 +131,44 @@ pub fn next_line(chunk: &mut [u8], rest: Rest, line: &mut [u8]) -> Line {
         turns -= 1;
     }
     finished(p)
+}
+
+// Nothing has been read.
+pub fn start() -> Rest {
+    Rest { at: 0, end: 0 }
+}
+
+pub fn rest_of(l: Line) -> Rest {
+    match l {
+        Line::Whole(_, rest) => rest,
+        Line::Long(rest) => rest,
+        Line::End => start(),
+    }
+}
+
+pub fn is_end(l: Line) -> bool {
+    match l {
+        Line::End => true,
+        _ => false,
+    }
+}
+
+pub fn is_long(l: Line) -> bool {
+    match l {
+        Line::Long(_) => true,
+        _ => false,
+    }
+}
+
+// The bytes of a line that stands in the slice.
+pub fn bytes_of(line: &[u8], l: Line) -> &[u8] {
+    match l {
+        Line::Whole(n, _) => {
+            if n <= line.len() {
+                return &line[0..n];
+            }
+            line
+        }
+        _ => &line[0..0],
+    }
 }

@@ -5,11 +5,11 @@ use Rattle.fields.proofs.all.Statement.{statement}
 use Rattle.fields.proofs.all.Tie as tie
 
 abbrev Inv-loop : tie.InvT-loop
-Inv-loop chunk₀ line₀ bytes₀ rest₀ turns₀ text chunk line bytes rest turns =
+Inv-loop chunk₀ line₀ bytes₀ rest₀ turns₀ chunk line bytes rest turns =
     (length chunk ≡ length chunk₀) × ((length line ≡ length line₀) × (length bytes ≡ length bytes₀))
 
 abbrev μ-loop : tie.MeasureT-loop
-μ-loop chunk₀ line₀ bytes₀ rest₀ turns₀ text chunk line bytes rest turns = turns
+μ-loop chunk₀ line₀ bytes₀ rest₀ turns₀ chunk line bytes rest turns = turns
 
 pub all-spec : {M : Type 1} → statement M
 all-spec =
@@ -17,8 +17,9 @@ all-spec =
     (tie.spec
     Inv-loop
     μ-loop
-    (λ c. search needs) (λ c. search needs) (λ c κs. search needs)
-    (λ c. search needs) (λ c κs. search needs) (λ c. search needs) (λ c. search needs)
-    (λ c. search needs) (λ c. search needs) (λ c κs. search needs) (λ c. search needs) (λ c. search needs)
-    (λ c. search needs) (λ c. search needs) (λ c. search needs) (λ c. search needs) (λ c. search needs)
+    (λ c κs. search needs) (λ c. search needs) (λ c. search needs)
+    (λ c κs. search needs) (λ c κs. search needs)
+    (λ c. search needs) (λ c. search needs) (λ c. search needs) (λ c. search needs)
+    (λ c κs. search needs) (λ c κs. search needs)
+    (λ c. search needs) (λ c. search needs)
     (λ c. search needs) (λ c. search needs) (λ c. search needs) (λ c. search needs))
