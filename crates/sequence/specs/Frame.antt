@@ -23,14 +23,14 @@ frame-size-fields =
     max-frame-size width-bits height-bits
 
 -- a size has at most the bits that its bit count minus 1 says
-abbrev pub held : ℕ → ℕ → Bool
-held bits-minus-1 size = ltb size (2 ^ (bits-minus-1 + 1))
+abbrev pub bits-hold : ℕ → ℕ → Bool
+bits-hold bits-minus-1 size = ltb size (2 ^ (bits-minus-1 + 1))
 
 -- both bit counts are checked before either is written
 unfoldable pub frame-size : Codec FrameSize
 frame-size = via frame-size-out frame-size-in (
-    checked (λ p. held (p .0) (p .1 .1 .0)) (Inconsistent frame-width-bits-minus-1 0) (
-    checked (λ p. held (p .1 .0) (p .1 .1 .1)) (Inconsistent frame-height-bits-minus-1 0) frame-size-fields))
+    checked (λ p. bits-hold (p .0) (p .1 .1 .0)) (Inconsistent frame-width-bits-minus-1 0) (
+    checked (λ p. bits-hold (p .1 .0) (p .1 .1 .1)) (Inconsistent frame-height-bits-minus-1 0) frame-size-fields))
 
 -- frame_id_numbers_present_flag is 0 with the reduced header
 unfoldable pub frame-ids : Bool → Codec FrameIds

@@ -7,10 +7,10 @@ use writer::*;
 ghost use Rattle.bits.specs.Walk.{Walked, demand as demanded};
 ghost use Rattle.bits.specs.declared.answer.Refusal.the-variants.{Inconsistent};
 ghost use Rattle.sequence.specs.Fields.{frame-size-of, frame-ids-of};
-ghost use Rattle.sequence.specs.Frame.{max-frame-size, frame-size-fields, held, frame-size, frame-ids};
+ghost use Rattle.sequence.specs.Frame.{max-frame-size, frame-size-fields, bits-hold, frame-size, frame-ids};
 
 fn bits_hold(out: &mut [u8], c: Cursor, bits_minus_1: u8, size: u32, element: u8) -> Step
-    ensures { λ s. ⌜ Walked (demanded (held «bits_minus_1» size) (Inconsistent element 0)) c (now (out .entry)) s (now (out .exit)) ⌝ }
+    ensures { λ s. ⌜ Walked (demanded (bits-hold «bits_minus_1» size) (Inconsistent element 0)) c (now (out .entry)) s (now (out .exit)) ⌝ }
 {
     demand(out, c, fits(size, bits_minus_1 as u32 + 1), element, 0)
 }

@@ -14,7 +14,7 @@ use Rattle.sequence.specs.declared.record.DecoderModelInfo.{DecoderModelInfo}
 use Rattle.sequence.specs.declared.record.SequenceHeaderObu.{SequenceHeaderObu}
 use Rattle.sequence.specs.Fields.{decoder-model-info-out, decoder-model-info-in, timing-out, timing-in, timing-of, general-out, frame-size-out, frame-size-in, frame-size-of, hint-bits-out, hint-bits-in, hint-bits-of, inter-tools-out, inter-tools-in, inter-tools-of, body-out, sequence-out}
 use Rattle.sequence.specs.Timing.{decoder-model-info, no-timing-info, no-decoder-model-info, decoder-model-info-if, timing, reduced-timing}
-use Rattle.sequence.specs.Frame.{held, frame-size-fields, frame-size}
+use Rattle.sequence.specs.Frame.{bits-hold, frame-size-fields, frame-size}
 use Rattle.sequence.specs.Tools.{hint-bits, motion-tools, order-tools, full-tools, reduced-motion-tools, reduced-order-tools, reduced-tools, inter-tools}
 use Rattle.sequence.specs.Sequence.{full-general, reduced-general, general, tools-and-color, body, sequence-header-obu, sequence-header}
 use Rattle.sequence_numbers.specs.Held.{held-model, held-header}
@@ -22,11 +22,11 @@ use Rattle.numbers.proofs.Alike.{Alike, itself, both, chosen, passing, nothing,
 use Rattle.numbers.proofs.Near.{Near, as-is, past, min-near, field}
 
 -- a size of at most 32 bits has fewer than any number of bits that a byte does not hold
-held-near : (size : ℕ) {x y : ℕ} → size < 2 ^ 32 → Near 255 x y → held x size ≡ held y size
-held-near size h as-is = refl
-held-near size h (past {x} {y} p q) = wide x p ∙ sym (wide y q)
+bits-hold-near : (size : ℕ) {x y : ℕ} → size < 2 ^ 32 → Near 255 x y → bits-hold x size ≡ bits-hold y size
+bits-hold-near size h as-is = refl
+bits-hold-near size h (past {x} {y} p q) = wide x p ∙ sym (wide y q)
   where
-    wide : (x : ℕ) → 255 ≤ x → held x size ≡ true
+    wide : (x : ℕ) → 255 ≤ x → bits-hold x size ≡ true
     wide x p = let k : 2 ^ 32 ≤ 2 ^ (x + 1) = pow-mono {i = 32} (omega arith) in lt-ltb size (2 ^ (x + 1)) (omega arith)
 
 model : (d : DecoderModelInfo) → Alike decoder-model-info (held-model d) d
@@ -54,8 +54,8 @@ module _ (h : SequenceHeaderObu) (width : h .«max_frame_width_minus_1» < 2 ^ 3
   unfolding frame-size frame-size-fields
   sizes =
       through frame-size-out frame-size-in (
-      passing _ _ (held-near _ width (min-near 255 _)) (
-      passing _ _ (held-near _ height (min-near 255 _)) (
+      passing _ _ (bits-hold-near _ width (min-near 255 _)) (
+      passing _ _ (bits-hold-near _ height (min-near 255 _)) (
       both (field 4 frame-width-bits-minus-1 0 255 (omega arith) (min-near 255 _)) (λ _.
       both (field 4 frame-height-bits-minus-1 0 255 (omega arith) (min-near 255 _)) (λ _. itself)))))
 
