@@ -1,11 +1,6 @@
 // The operating points of 5.5.1, and 5.5.5 operating_parameters_info.
 use crate::frame::width;
-use crate::row::Index;
-use crate::row::f;
-use crate::row::f_at;
-use crate::row::flag;
-use crate::row::inferred;
-use crate::row::inferred_at;
+use crate::row::*;
 use bits::answer::Cursor;
 use sequence_reader::place;
 
@@ -73,15 +68,26 @@ fn operating_point(
 // The points up to the one with the number `last`.
 fn operating_points(s: &[u8], c: Cursor, last: u32, n: &[u32; 347]) -> Cursor {
     let has_model = n[place::DECODER_MODEL_INFO_PRESENT_FLAG] != 0;
-    let k = width(n[place::BUFFER_DELAY_LENGTH_MINUS_1]);
+    let delay_width = width(n[place::BUFFER_DELAY_LENGTH_MINUS_1]);
     let has_delay = n[place::INITIAL_DISPLAY_DELAY_PRESENT_FLAG] != 0;
     let mut p = c;
     for i in 0..32 {
         if i <= last as usize {
-            let at = place::OPERATING_POINTS + 9 * i;
-            let model = n[at + 3] != 0;
-            let delay = n[at + 7] != 0;
-            p = operating_point(s, p, n[at + 1], has_model, model, k, has_delay, delay, i);
+            let at = place::OPERATING_POINTS + place::POINT_NUMBERS * i;
+            let model = n[at + place::DECODER_MODEL_PRESENT_FOR_THIS_OP] != 0;
+            let delay = n[at + place::INITIAL_DISPLAY_DELAY_PRESENT_FOR_THIS_OP] != 0;
+            let level = n[at + place::SEQ_LEVEL_IDX];
+            p = operating_point(
+                s,
+                p,
+                level,
+                has_model,
+                model,
+                delay_width,
+                has_delay,
+                delay,
+                i,
+            );
         }
     }
     p

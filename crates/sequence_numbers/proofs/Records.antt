@@ -28,7 +28,8 @@ use Rattle.sequence_reader.specs.Layouts.{record-of}
 use Rattle.numbers.specs.Numbers.{at, flag-at, each}
 use Rattle.numbers.specs.Held.{byte}
 use Rattle.sequence_numbers.specs.Held.{held-model, held-header}
-use Rattle.sequence_numbers.specs.Groups.{general, model, points, frame, ids, tools, choices, hints, filters, grain, header-of, timing-of, model-of, point-of, color-of, used}
+use Rattle.sequence_reader.specs.Places.{sequence, general, model-present, points, frame-size, max-frame-size, frame-ids, tools, inter-tools, order-tools, hint-tools, motion-tools, hint-bits, filter-tools, film-grain}
+use Rattle.sequence_numbers.specs.Groups.{header-of, timing-of, model-of, point-of, color-of, used}
 use Rattle.numbers.proofs.Filling.{getD-each}
 use Rattle.sequence_numbers.proofs.Given.{header-given}
 
@@ -50,12 +51,12 @@ module _ (xs : List ℕ) where
   abbrev made : ObuHeader → TimingInfo → DecoderModelInfo → List OperatingPoint → ColorConfig → ℕ → ℕ → ℕ → ℕ → ℕ → SequenceHeaderObu
   made h t m ps k w v x y b = record {
     «obu_header» = h;
-    «seq_profile» = at xs general;
-    «still_picture» = flag-at xs (general + 1);
-    «reduced_still_picture_header» = flag-at xs (general + 2);
-    «timing_info_present_flag» = flag-at xs (general + 3);
+    «seq_profile» = at xs sequence;
+    «still_picture» = flag-at xs (sequence + 1);
+    «reduced_still_picture_header» = flag-at xs (sequence + 2);
+    «timing_info_present_flag» = flag-at xs general;
     «timing_info» = t;
-    «decoder_model_info_present_flag» = flag-at xs model;
+    «decoder_model_info_present_flag» = flag-at xs model-present;
     «decoder_model_info» = m;
     «initial_display_delay_present_flag» = flag-at xs points;
     «operating_points_cnt_minus_1» = at xs (points + 1);
@@ -64,30 +65,30 @@ module _ (xs : List ℕ) where
     «frame_height_bits_minus_1» = v;
     «max_frame_width_minus_1» = x;
     «max_frame_height_minus_1» = y;
-    «frame_id_numbers_present_flag» = flag-at xs ids;
-    «delta_frame_id_length_minus_2» = at xs (ids + 1);
-    «additional_frame_id_length_minus_1» = at xs (ids + 2);
+    «frame_id_numbers_present_flag» = flag-at xs frame-ids;
+    «delta_frame_id_length_minus_2» = at xs (frame-ids + 1);
+    «additional_frame_id_length_minus_1» = at xs (frame-ids + 2);
     «use_128x128_superblock» = flag-at xs tools;
     «enable_filter_intra» = flag-at xs (tools + 1);
     «enable_intra_edge_filter» = flag-at xs (tools + 2);
-    «enable_interintra_compound» = flag-at xs (tools + 3);
-    «enable_masked_compound» = flag-at xs (tools + 4);
-    «enable_warped_motion» = flag-at xs (tools + 5);
-    «enable_dual_filter» = flag-at xs (tools + 6);
-    «enable_order_hint» = flag-at xs (tools + 7);
-    «enable_jnt_comp» = flag-at xs (tools + 8);
-    «enable_ref_frame_mvs» = flag-at xs (tools + 9);
-    «seq_choose_screen_content_tools» = flag-at xs choices;
-    «seq_force_screen_content_tools» = at xs (choices + 1);
-    «seq_choose_integer_mv» = flag-at xs (choices + 2);
-    «seq_force_integer_mv» = at xs (choices + 3);
+    «enable_interintra_compound» = flag-at xs inter-tools;
+    «enable_masked_compound» = flag-at xs (inter-tools + 1);
+    «enable_warped_motion» = flag-at xs (inter-tools + 2);
+    «enable_dual_filter» = flag-at xs order-tools;
+    «enable_order_hint» = flag-at xs (order-tools + 1);
+    «enable_jnt_comp» = flag-at xs hint-tools;
+    «enable_ref_frame_mvs» = flag-at xs (hint-tools + 1);
+    «seq_choose_screen_content_tools» = flag-at xs motion-tools;
+    «seq_force_screen_content_tools» = at xs (motion-tools + 1);
+    «seq_choose_integer_mv» = flag-at xs (motion-tools + 2);
+    «seq_force_integer_mv» = at xs (motion-tools + 3);
     «order_hint_bits_minus_1» = b;
-    «order_hint_bits» = at xs (hints + 1);
-    «enable_superres» = flag-at xs filters;
-    «enable_cdef» = flag-at xs (filters + 1);
-    «enable_restoration» = flag-at xs (filters + 2);
+    «order_hint_bits» = at xs (hint-bits + 1);
+    «enable_superres» = flag-at xs filter-tools;
+    «enable_cdef» = flag-at xs (filter-tools + 1);
+    «enable_restoration» = flag-at xs (filter-tools + 2);
     «color_config» = k;
-    «film_grain_params_present» = flag-at xs grain;
+    «film_grain_params_present» = flag-at xs film-grain;
   }
 
   -- its walk is that of the numbers given: it looks at the points that are used, and the fields that are held in 8 bits are written as those given
@@ -97,11 +98,11 @@ module _ (xs : List ℕ) where
       → m ≡ held-model (model-of xs)
       → take (used (at xs 19)) ps ≡ each (used (at xs 19)) (point-of xs)
       → k ≡ color-of xs
-      → w ≡ byte (at xs frame)
-      → v ≡ byte (at xs (frame + 1))
-      → (x ≡ at xs (frame + 2)) × (at xs (frame + 2) < 2 ^ 32)
-      → (y ≡ at xs (frame + 3)) × (at xs (frame + 3) < 2 ^ 32)
-      → b ≡ byte (at xs hints)
+      → w ≡ byte (at xs frame-size)
+      → v ≡ byte (at xs (frame-size + 1))
+      → (x ≡ at xs max-frame-size) × (at xs max-frame-size < 2 ^ 32)
+      → (y ≡ at xs (max-frame-size + 1)) × (at xs (max-frame-size + 1) < 2 ^ 32)
+      → b ≡ byte (at xs hint-bits)
       → run (sequence-header .enc (made h t m ps k w v x y b)) ≡ run (sequence-header .enc (record-of xs))
   unfolding record-of layout.of layout.at layout._▸_ layout._▹_ layout.nowhere
   record-given ps h t m e k w v x y b =

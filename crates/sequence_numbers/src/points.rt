@@ -12,17 +12,19 @@ fn operating_point(n: &[u32; 347], i: usize) -> OperatingPoint
     requires { ⌜ i < 32 ⌝ }
     ensures { λ r. ⌜ r ≡ point-of (now (n .entry)) i ⌝ }
 {
-    let at = place::OPERATING_POINTS + 9 * i;
+    let at = place::OPERATING_POINTS + place::POINT_NUMBERS * i;
     OperatingPoint {
         idc: n[at],
-        seq_level_idx: n[at + 1],
-        seq_tier: n[at + 2],
-        decoder_model_present_for_this_op: n[at + 3] != 0,
-        decoder_buffer_delay: n[at + 4],
-        encoder_buffer_delay: n[at + 5],
-        low_delay_mode_flag: n[at + 6] != 0,
-        initial_display_delay_present_for_this_op: n[at + 7] != 0,
-        initial_display_delay_minus_1: n[at + 8],
+        seq_level_idx: n[at + place::SEQ_LEVEL_IDX],
+        seq_tier: n[at + place::SEQ_TIER],
+        decoder_model_present_for_this_op: n[at + place::DECODER_MODEL_PRESENT_FOR_THIS_OP] != 0,
+        decoder_buffer_delay: n[at + place::DECODER_BUFFER_DELAY],
+        encoder_buffer_delay: n[at + place::ENCODER_BUFFER_DELAY],
+        low_delay_mode_flag: n[at + place::LOW_DELAY_MODE_FLAG] != 0,
+        initial_display_delay_present_for_this_op: n[at
+            + place::INITIAL_DISPLAY_DELAY_PRESENT_FOR_THIS_OP]
+            != 0,
+        initial_display_delay_minus_1: n[at + place::INITIAL_DISPLAY_DELAY_MINUS_1],
     }
 }
 

@@ -66,3 +66,6 @@ planes = 341
 
 abbrev pub sampling : ℕ
 sampling = 342
+
+abbrev pub film-grain : ℕ
+film-grain = 346

@@ -1,4 +1,4 @@
-// Where each number of the record stands; of an operating point, how far behind the point's first.
+// Where each number of the record stands.
 pub const OBU_TYPE: usize = 0;
 
 pub const EXTENSION_FLAG: usize = 1;
@@ -118,3 +118,22 @@ pub const CHROMA_SAMPLE_POSITION: usize = 344;
 pub const SEPARATE_UV_DELTA_Q: usize = 345;
 
 pub const FILM_GRAIN_PARAMS_PRESENT: usize = 346;
+
+// Of an operating point: how many numbers it has, and how far behind its first, idc, each stands.
+pub const POINT_NUMBERS: usize = 9;
+
+pub const SEQ_LEVEL_IDX: usize = 1;
+
+pub const SEQ_TIER: usize = 2;
+
+pub const DECODER_MODEL_PRESENT_FOR_THIS_OP: usize = 3;
+
+pub const DECODER_BUFFER_DELAY: usize = 4;
+
+pub const ENCODER_BUFFER_DELAY: usize = 5;
+
+pub const LOW_DELAY_MODE_FLAG: usize = 6;
+
+pub const INITIAL_DISPLAY_DELAY_PRESENT_FOR_THIS_OP: usize = 7;
+
+pub const INITIAL_DISPLAY_DELAY_MINUS_1: usize = 8;

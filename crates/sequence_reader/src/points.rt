@@ -15,15 +15,15 @@ fn operating_parameters_info(s: &[u8], c: Cursor, width: u32, at: usize, n: &mut
     requires { ⌜ at + 9 ≤ 347 ⌝ }
     ensures { λ r. ⌜ Fills (row.operating-parameters-info at) (operating-parameters-info (min width 32) 0 .dec) (now (s .entry)) c r (now (n .entry)) (now (n .exit)) ⌝ }
 {
-    let t = f(s, c, width, &mut n[at + 4]);
+    let t = f(s, c, width, &mut n[at + place::DECODER_BUFFER_DELAY]);
     let Step::Next(c) = t else {
         return t;
     };
-    let t = f(s, c, width, &mut n[at + 5]);
+    let t = f(s, c, width, &mut n[at + place::ENCODER_BUFFER_DELAY]);
     let Step::Next(c) = t else {
         return t;
     };
-    mark(s, c, &mut n[at + 6])
+    mark(s, c, &mut n[at + place::LOW_DELAY_MODE_FLAG])
 }
 
 fn point_model(
@@ -42,13 +42,13 @@ fn point_model(
     let Step::Next(c) = t else {
         return t;
     };
-    n[at + 3] = present as u32;
+    n[at + place::DECODER_MODEL_PRESENT_FOR_THIS_OP] = present as u32;
     if present {
         return operating_parameters_info(s, c, width, at, n);
     }
-    n[at + 4] = 0;
-    n[at + 5] = 0;
-    n[at + 6] = 0;
+    n[at + place::DECODER_BUFFER_DELAY] = 0;
+    n[at + place::ENCODER_BUFFER_DELAY] = 0;
+    n[at + place::LOW_DELAY_MODE_FLAG] = 0;
     Step::Next(c)
 }
 
@@ -57,8 +57,8 @@ fn point_delay(s: &[u8], c: Cursor, has_delay: bool, at: usize, n: &mut [u32; 34
     ensures { λ r. ⌜ Fills (row.point-delay at) (point-delay «has_delay» 0 .dec) (now (s .entry)) c r (now (n .entry)) (now (n .exit)) ⌝ }
 {
     if !has_delay {
-        n[at + 7] = 0;
-        n[at + 8] = 0;
+        n[at + place::INITIAL_DISPLAY_DELAY_PRESENT_FOR_THIS_OP] = 0;
+        n[at + place::INITIAL_DISPLAY_DELAY_MINUS_1] = 0;
         return Step::Next(c);
     }
     let mut present = false;
@@ -66,11 +66,11 @@ fn point_delay(s: &[u8], c: Cursor, has_delay: bool, at: usize, n: &mut [u32; 34
     let Step::Next(c) = t else {
         return t;
     };
-    n[at + 7] = present as u32;
+    n[at + place::INITIAL_DISPLAY_DELAY_PRESENT_FOR_THIS_OP] = present as u32;
     if present {
-        return f(s, c, 4, &mut n[at + 8]);
+        return f(s, c, 4, &mut n[at + place::INITIAL_DISPLAY_DELAY_MINUS_1]);
     }
-    n[at + 8] = 0;
+    n[at + place::INITIAL_DISPLAY_DELAY_MINUS_1] = 0;
     Step::Next(c)
 }
 
@@ -87,7 +87,7 @@ fn point_rest(
     requires { ⌜ at + 9 ≤ 347 ⌝ }
     ensures { λ r. ⌜ Fills (row.point-rest at) (point-rest level «has_model» (min width 32) «has_delay» 0 .dec) (now (s .entry)) c r (now (n .entry)) (now (n .exit)) ⌝ }
 {
-    let t = f_if(s, c, 7 < level, 1, 0, &mut n[at + 2]);
+    let t = f_if(s, c, 7 < level, 1, 0, &mut n[at + place::SEQ_TIER]);
     let Step::Next(c) = t else {
         return t;
     };
@@ -119,7 +119,7 @@ fn operating_point(
     let Step::Next(c) = t else {
         return t;
     };
-    n[at + 1] = level;
+    n[at + place::SEQ_LEVEL_IDX] = level;
     point_rest(s, c, level, has_model, width, has_delay, at, n)
 }
 
@@ -134,14 +134,14 @@ fn reduced_point(s: &[u8], c: Cursor, at: usize, n: &mut [u32; 347]) -> Step
         return t;
     };
     n[at] = 0;
-    n[at + 1] = level;
-    n[at + 2] = 0;
-    n[at + 3] = 0;
-    n[at + 4] = 0;
-    n[at + 5] = 0;
-    n[at + 6] = 0;
-    n[at + 7] = 0;
-    n[at + 8] = 0;
+    n[at + place::SEQ_LEVEL_IDX] = level;
+    n[at + place::SEQ_TIER] = 0;
+    n[at + place::DECODER_MODEL_PRESENT_FOR_THIS_OP] = 0;
+    n[at + place::DECODER_BUFFER_DELAY] = 0;
+    n[at + place::ENCODER_BUFFER_DELAY] = 0;
+    n[at + place::LOW_DELAY_MODE_FLAG] = 0;
+    n[at + place::INITIAL_DISPLAY_DELAY_PRESENT_FOR_THIS_OP] = 0;
+    n[at + place::INITIAL_DISPLAY_DELAY_MINUS_1] = 0;
     Step::Next(c)
 }
 
@@ -188,7 +188,7 @@ pub fn operating_points(
             has_model,
             width,
             has_delay,
-            place::OPERATING_POINTS + 9 * i,
+            place::OPERATING_POINTS + place::POINT_NUMBERS * i,
             n,
         );
         let Step::Next(q) = t else {

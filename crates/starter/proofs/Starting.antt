@@ -9,8 +9,8 @@ use Rattle.bits.specs.Elements.{frame-width-bits-minus-1, frame-height-bits-min
 use Rattle.bits.specs.declared.answer.Refusal.{Refusal}
 use Rattle.bits.specs.declared.answer.Refusal.the-variants.{Inconsistent, Unfit}
 use Rattle.fill.proofs.Lying.{Items}
-use Rattle.obu.specs.declared.answer.Answer.{Answer}
-use Rattle.obu.specs.declared.answer.Answer.the-variants.{Refused}
+use Rattle.bits.specs.declared.answer.Answer.{Answer}
+use Rattle.bits.specs.declared.answer.Answer.the-variants.{Refused}
 use Rattle.obu.specs.Writer.{Writes}
 use Rattle.obu.specs.Demand3.{Consistent}
 use Rattle.sequence.specs.declared.record.SequenceHeaderObu.{SequenceHeaderObu}

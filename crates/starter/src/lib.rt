@@ -6,7 +6,7 @@ ghost use Rattle.sequence_reader.specs.Layouts.{numbers-of};
 ghost use Rattle.starter.specs.Video.{minus-1, profile, video};
 
 // The level of the first operating point.
-const SEQ_LEVEL_IDX: usize = place::OPERATING_POINTS + 1;
+const FIRST_LEVEL: usize = place::OPERATING_POINTS + place::SEQ_LEVEL_IDX;
 
 fn minus_1(size: u32) -> u32
     ensures { λ r. ⌜ r ≡ minus-1 size ⌝ }
@@ -30,7 +30,7 @@ pub fn video(width: u32, height: u32, bit_depth: u32, numbers: &mut [u32; 347])
     n[place::OBU_TYPE] = 1;
     n[place::HAS_SIZE_FIELD] = 1;
     n[place::SEQ_PROFILE] = profile(bit_depth);
-    n[SEQ_LEVEL_IDX] = 31;
+    n[FIRST_LEVEL] = 31;
     n[place::FRAME_WIDTH_BITS_MINUS_1] = top_bit(w as u64);
     n[place::FRAME_HEIGHT_BITS_MINUS_1] = top_bit(h as u64);
     n[place::MAX_FRAME_WIDTH_MINUS_1] = w;
