@@ -32,7 +32,8 @@ same-length c = search needs
 returns : tie.Need-returns
 returns c =
     let a = c .before .before .before .before .before .before .args in
-    put-name (a .out .now) (c .before .before .before .name .last .0) (a .at) (find (a .element) names []) (element (a .element)) (unnamed (a .element)) (found-name (a .element)) (c .before .before .before .name .result) (c .before .before .before .name .ensures) (c .if1 .taken)
+    let n = c .before .before .before .name in
+    put-name (a .out .now) (n .last .0) (a .at) (find (a .element) names []) (element (a .element)) (unnamed (a .element)) (found-name (a .element)) (n .result) (n .ensures) (c .if1 .taken)
 
 slice-aggregate-text : tie.Need-slice-aggregate-text
 slice-aggregate-text c = search needs
@@ -49,9 +50,12 @@ same-length-2 c = search needs
 returns-2 : tie.Need-returns-2
 returns-2 c =
     let a = c .before .before .before .before .before .before .before .before .before .before .before .before .before .before .before .args in
-    put-other (a .out .now) (c .before .before .before .before .before .before .before .before .before .before .before .before .name .last .0) (a .at) (find (a .element) names []) (element (a .element)) (unnamed (a .element)) (found-name (a .element)) (c .before .before .decimal .result) (c .before .before .decimal .last .0)
-    (rw (c .before .before .before .before .before .before .before .before .before .if1 .left) at (c .before .before .before .before .before .before .before .before .before .before .before .before .name .ensures))
-    (put-then (c .before .before .before .before .before .before .before .before .before .before .before .before .name .last .0) (c .before .before .before .before .before .before .text .last .0) (c .before .before .decimal .last .0) (a .at) (c .before .before .before .before .before .before .text .result) (c .before .before .decimal .result) (codes "element ") (decimal (a .element)) (c .before .before .before .before .before .before .text .ensures) (c .before .before .before .before .before .before .text .kept .0) (c .before .before .decimal .ensures))
+    let n = c .before .before .before .before .before .before .before .before .before .before .before .before .name in
+    let p = c .before .before .before .before .before .before .text in
+    let q = c .before .before .decimal in
+    put-other (a .out .now) (n .last .0) (a .at) (find (a .element) names []) (element (a .element)) (unnamed (a .element)) (found-name (a .element)) (q .result) (q .last .0)
+    (rw (c .before .before .before .before .before .before .before .before .before .if1 .left) at (n .ensures))
+    (put-then (n .last .0) (p .last .0) (q .last .0) (a .at) (p .result) (q .result) (codes "element ") (decimal (a .element)) (p .ensures) (p .kept .0) (q .ensures))
 
 pub element-spec : {M : Type 1} → statement M
 element-spec =

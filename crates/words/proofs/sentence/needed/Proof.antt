@@ -35,8 +35,10 @@ returns-2 : tie.Need-returns-2
 unfolding needed
 returns-2 c =
     let a = c .before .before .before .before .before .before .before .before .before .before .before .args in
+    let p = c .before .before .before .before .before .before .before .decimal in
+    let q = c .before .before .text2 in
     rw (ne-eqb (a .n) 1 (c .before .before .before .before .before .before .before .before .before .if1 .left))
-    (put-then (a .out .now) (c .before .before .before .before .before .before .before .decimal .last .0) (c .before .before .text2 .last .0) (a .at) (c .before .before .before .before .before .before .before .decimal .result) (c .before .before .text2 .result) (decimal (a .n)) (codes " bytes are needed") (c .before .before .before .before .before .before .before .decimal .ensures) (c .before .before .before .before .before .before .before .decimal .kept .0) (c .before .before .text2 .ensures))
+    (put-then (a .out .now) (p .last .0) (q .last .0) (a .at) (p .result) (q .result) (decimal (a .n)) (codes " bytes are needed") (p .ensures) (p .kept .0) (q .ensures))
 
 pub needed-spec : {M : Type 1} → statement M
 needed-spec =

@@ -32,10 +32,14 @@ unfolding place
 returns c =
     let a = c .before .before .before .before .before .before .before .before .before .before .before .before .before .before .before .before .before .before .before .args in
     let e : has-index (a .number) (a .e) ≡ true = sym (c .before .before .before .before .before .before .before .before .before .before .before .before .before .has-index .ensures) ∙ c .before .before .before .before .before .before .before .before .before .before .before .before .if1 .taken in
+    let n = c .before .before .before .before .before .before .before .before .before .before .before .before .before .before .before .before .element in
+    let p = c .before .before .before .before .before .before .before .before .before .before .byte in
+    let i = c .before .before .before .before .before .before .decimal in
+    let q = c .before .before .byte2 in
     rw e
-    (put-then (a .out .now) (c .before .before .before .before .before .before .before .before .before .before .before .before .before .before .before .before .element .last .0) (c .before .before .byte2 .last .0) 0 (c .before .before .before .before .before .before .before .before .before .before .before .before .before .before .before .before .element .result) (c .before .before .byte2 .result) (element (a .e)) (codes "[" ++ decimal (a .index) ++ codes "]") (c .before .before .before .before .before .before .before .before .before .before .before .before .before .before .before .before .element .ensures) (c .before .before .before .before .before .before .before .before .before .before .before .before .before .before .before .before .element .kept .0)
-    (put-then (c .before .before .before .before .before .before .before .before .before .before .before .before .before .before .before .before .element .last .0) (c .before .before .before .before .before .before .before .before .before .before .byte .last .0) (c .before .before .byte2 .last .0) (c .before .before .before .before .before .before .before .before .before .before .before .before .before .before .before .before .element .result) (c .before .before .before .before .before .before .before .before .before .before .byte .result) (c .before .before .byte2 .result) (codes "[") (decimal (a .index) ++ codes "]") (c .before .before .before .before .before .before .before .before .before .before .byte .ensures) (c .before .before .before .before .before .before .before .before .before .before .byte .kept .0)
-    (put-then (c .before .before .before .before .before .before .before .before .before .before .byte .last .0) (c .before .before .before .before .before .before .decimal .last .0) (c .before .before .byte2 .last .0) (c .before .before .before .before .before .before .before .before .before .before .byte .result) (c .before .before .before .before .before .before .decimal .result) (c .before .before .byte2 .result) (decimal (a .index)) (codes "]") (c .before .before .before .before .before .before .decimal .ensures) (c .before .before .before .before .before .before .decimal .kept .0) (c .before .before .byte2 .ensures))))
+    (put-then (a .out .now) (n .last .0) (q .last .0) 0 (n .result) (q .result) (element (a .e)) (codes "[" ++ decimal (a .index) ++ codes "]") (n .ensures) (n .kept .0)
+    (put-then (n .last .0) (p .last .0) (q .last .0) (n .result) (p .result) (q .result) (codes "[") (decimal (a .index) ++ codes "]") (p .ensures) (p .kept .0)
+    (put-then (p .last .0) (i .last .0) (q .last .0) (p .result) (i .result) (q .result) (decimal (a .index)) (codes "]") (i .ensures) (i .kept .0) (q .ensures))))
 
 same-length-2 : tie.Need-same-length-2
 same-length-2 c = search needs
