@@ -14,6 +14,10 @@ use Rattle.sequence_reader.specs.declared.read.Part.{Part}
 use Rattle.sequence_reader.specs.declared.read.Outcome.{Outcome}
 use Rattle.sequence_reader.specs.declared.read.Outcome.the-variants.{Done, Refused}
 
+-- 10000 * major + 100 * minor + patch
+abbrev pub version : ℕ
+version = 200
+
 -- an answer: its number and its three values, of which no answer uses the third
 abbrev pub answer-of : Numbered → List ℕ
 answer-of n = n .number ∷ n .first ∷ n .second ∷ 0 ∷ []

@@ -12,18 +12,23 @@ use sequence_numbers::write_sequence_numbers;
 use sequence_reader::read::Outcome;
 use sequence_reader::read::payload_part;
 use sequence_reader::read::read_sequence_header;
+use starter::video;
+use words::explain;
 ghost use mathlib.Core.Path.{_≡_};
+ghost use lib.ListN.{length};
 ghost use Rattle.obu.specs.Delimiter.{temporal-delimiter, IsDelimiter, Tells};
 ghost use Rattle.obu.specs.Demand3.{read};
 ghost use Rattle.sequence.specs.Sequence.{sequence-header};
-ghost use Rattle.sequence_reader.specs.Layouts.{header-of, record-of};
+ghost use Rattle.sequence_reader.specs.Layouts.{header-of, numbers-of, record-of};
 ghost use Rattle.sequence_reader.specs.Payload.{payloadPart};
 ghost use Rattle.quantization_numbers.specs.Numbers.{quantization-walk};
 ghost use Rattle.segmentation_numbers.specs.Numbers.{segmentation-walk};
 ghost use Rattle.loop_filter_numbers.specs.Numbers.{loop-filter-walk};
 ghost use Rattle.cdef_numbers.specs.Numbers.{cdef-walk};
 ghost use Rattle.restoration_numbers.specs.Numbers.{lr-walk};
-ghost use Rattle.friscurella.specs.Calls.{answer-of, outcome-numbers, part-numbers, lent, wrote-obu, wrote-part, was-read};
+ghost use Rattle.starter.specs.Video.{video};
+ghost use Rattle.words.specs.Sentence.{explained, cut};
+ghost use Rattle.friscurella.specs.Calls.{version, answer-of, outcome-numbers, part-numbers, lent, wrote-obu, wrote-part, was-read};
 
 // The answer, and its number.
 fn tell(n: Numbered, answer: &mut [u32; 4]) -> u32
@@ -45,6 +50,36 @@ fn outcome_numbers(o: Outcome) -> Numbered
         },
         Outcome::Refused(r) => bits::answer::numbers(r),
     }
+}
+
+// The version of the library, as the header for C has it.
+#[no_mangle]
+pub extern "C" fn friscurella_version() -> u32
+    ensures { λ r. ⌜ r ≡ version ⌝ }
+{
+    200
+}
+
+// One sentence on an answer, cut where there is no room for it and a 0 byte. Returns the length of the whole sentence.
+#[no_mangle]
+pub extern "C" fn friscurella_explain(answer: &[u32; 4], text: &mut [u8]) -> u32
+    ensures { λ r. ⌜ r ≡ length (explained (now (answer .entry))) ⌝ }
+    ensures { λ _. ⌜ now (text .exit) ≡ cut (explained (now (answer .entry))) (now (text .entry)) ⌝ }
+{
+    explain(answer, text)
+}
+
+// A record to start from.
+#[no_mangle]
+pub extern "C" fn friscurella_video(
+    width: u32,
+    height: u32,
+    bit_depth: u32,
+    record: &mut [u32; 347],
+)
+    ensures { λ _. ⌜ now («record» .exit) ≡ numbers-of (video width height «bit_depth») ⌝ }
+{
+    video(width, height, bit_depth, record);
 }
 
 #[no_mangle]

@@ -6,7 +6,7 @@ ghost use Rattle.obu.specs.Demand3.{read};
 ghost use Rattle.sequence.specs.Sequence.{sequence-header};
 ghost use Rattle.sequence_reader.specs.Layouts.{header-of, record-of};
 ghost use Rattle.sequence_reader.specs.Payload.{payloadPart};
-ghost use Rattle.friscurella.specs.Calls.{lent, wrote-obu, was-read, part-numbers};
+ghost use Rattle.friscurella.specs.Calls.{version, lent, wrote-obu, was-read, part-numbers};
 
 pub fn friscurella_write_sequence_header(
     record: &[u32; 347],
@@ -48,4 +48,10 @@ pub fn friscurella_is_temporal_delimiter(input: &[u8]) -> bool
     ensures { λ r. ⌜ Tells r (IsDelimiter (now (input .entry))) ⌝ }
 {
     friscurella::calls::friscurella_is_temporal_delimiter(input)
+}
+
+pub fn friscurella_version() -> u32
+    ensures { λ r. ⌜ r ≡ version ⌝ }
+{
+    friscurella::calls::friscurella_version()
 }
