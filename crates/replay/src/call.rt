@@ -4,6 +4,7 @@ use crate::settings::Parsed;
 use crate::word::Word;
 use friscurella::calls::*;
 use lines::parse::Bytes;
+use sequence_reader::place;
 ghost use mathlib.Core.Path.{_≡_};
 ghost use mir.Syntax.{w32};
 ghost use mir.Val.{toZ};
@@ -32,7 +33,13 @@ fn all_signed(record: &[u32; 347], to: &mut [i32]) {
 }
 
 fn td(record: &[u32; 347], out: &mut [u8], answer: &mut [u32; 4]) -> u32 {
-    let r = [record[0], record[1], record[2], record[3], record[4]];
+    let r = [
+        record[place::OBU_TYPE],
+        record[place::EXTENSION_FLAG],
+        record[place::HAS_SIZE_FIELD],
+        record[place::TEMPORAL_ID],
+        record[place::SPATIAL_ID],
+    ];
     friscurella_write_temporal_delimiter(&r, out, answer)
 }
 

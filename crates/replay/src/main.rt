@@ -5,8 +5,7 @@ mod settings;
 mod show;
 mod word;
 
-use lines::input::Line;
-use lines::input::Rest;
+use lines::input::*;
 use word::Word;
 
 // A line's answer, put at the start of out. A line with no word, and one whose first word begins with `#`, has none.
@@ -30,51 +29,26 @@ fn answer(line: &[u8], buffer: &mut [u8], out: &mut [u8]) -> usize {
     }
 }
 
-// Answers the next line, if there is one, and hands on what was found.
-fn next(chunk: &mut [u8], rest: Rest, line: &mut [u8], buffer: &mut [u8], out: &mut [u8]) -> Line {
-    let l = lines::input::next_line(chunk, rest, line);
-    match l {
-        Line::Whole(size, _) => {
-            if size <= line.len() {
-                let n = answer(&line[0..size], buffer, out);
-                lines::answer::write(out, n);
-            }
-        }
-        Line::Long(_) => {
-            let n = show::bad(out);
-            lines::answer::write(out, n);
-        }
-        Line::End => {}
+// A line that is too long for the slice is bad.
+fn answered(line: &[u8], l: Line, buffer: &mut [u8], out: &mut [u8]) -> usize {
+    if is_long(l) {
+        return show::bad(out);
     }
-    l
+    answer(bytes_of(line, l), buffer, out)
 }
 
-fn rest_of(l: Line) -> Rest {
-    match l {
-        Line::Whole(_, rest) => rest,
-        Line::Long(rest) => rest,
-        Line::End => Rest { at: 0, end: 0 },
-    }
-}
-
-fn is_end(l: Line) -> bool {
-    match l {
-        Line::End => true,
-        _ => false,
-    }
-}
-
-// Nothing says that an input ends, and a proved loop has to: it counts down from a number that no run uses up.
 fn all(chunk: &mut [u8], line: &mut [u8], buffer: &mut [u8], out: &mut [u8]) {
-    let mut rest = Rest { at: 0, end: 0 };
+    let mut rest = start();
     let mut turns = u64::MAX;
     while 0 < turns {
-        let l = next(chunk, rest, line, buffer, out);
+        turns -= 1;
+        let l = next_line(chunk, rest, line);
         if is_end(l) {
             return;
         }
+        let n = answered(line, l, buffer, out);
+        lines::answer::write(out, n);
         rest = rest_of(l);
-        turns -= 1;
     }
 }
 

@@ -1,6 +1,5 @@
 // What may stand behind a case's numbers: `;` and settings, in any order, each at most once.
-use lines::parse::Bytes;
-use lines::parse::Numeral;
+use lines::parse::*;
 
 // What was given up to a place of the line, and what may still be given.
 pub struct Given {

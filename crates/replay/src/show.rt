@@ -1,7 +1,5 @@
 // Answer lines.
-use lines::answer::byte;
-use lines::answer::decimal;
-use lines::answer::text;
+use lines::answer::*;
 use sequence_reader::place;
 ghost use Prim.Native.Nat.{_≤_};
 
