@@ -1,13 +1,6 @@
 // Lists sequence headers: each line of standard input is an OBU in hex. A line that begins with `#` is copied; an empty one is passed over.
-use lines::input::Line;
-use lines::input::bytes_of;
-use lines::input::is_end;
-use lines::input::is_long;
-use lines::input::next_line;
-use lines::input::rest_of;
-use lines::input::start;
-use lines::parse::Bytes;
-use lines::parse::hex;
+use lines::input::*;
+use lines::parse::*;
 use listing::list::list;
 use listing::out::text;
 

@@ -1,7 +1,5 @@
 // 5.5.2 color_config.
-use crate::row::f_if;
-use crate::row::flag;
-use crate::row::flag_if;
+use crate::row::*;
 use bits::answer::Cursor;
 use sequence_reader::place;
 

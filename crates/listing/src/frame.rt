@@ -1,6 +1,5 @@
 // The frame's size and its identifiers, of 5.5.1.
-use crate::row::f;
-use crate::row::flag_if;
+use crate::row::*;
 use bits::answer::Cursor;
 
 // As many bits as the number says, and one more, at most 32.

@@ -1,26 +1,16 @@
 // The public call.
 use crate::color::color_config;
-use crate::frame::frame_ids;
-use crate::frame::frame_size;
-use crate::obu_rows::obu_header;
-use crate::obu_rows::obu_size;
-use crate::obu_rows::trailing_bits;
-use crate::points::points;
-use crate::points::reduced_points;
+use crate::frame::*;
+use crate::obu_rows::*;
+use crate::points::*;
 use crate::refusal::refusal;
-use crate::row::f;
-use crate::row::flag;
-use crate::row::heading;
+use crate::row::*;
 use crate::timing::timing;
-use crate::tools::block_tools;
-use crate::tools::filter_tools;
-use crate::tools::inter_tools;
-use bits::answer::Cursor;
-use bits::answer::Step;
+use crate::tools::*;
+use bits::answer::*;
 use obu::read::GotHeader;
 use sequence_reader::place;
-use sequence_reader::read::Outcome;
-use sequence_reader::read::read_sequence_header;
+use sequence_reader::read::*;
 
 fn start() -> Cursor {
     Cursor { at: 0 }

@@ -1,8 +1,5 @@
 // 5.3: the rows of the header, of the size, and of the trailing bits.
-use crate::row::f;
-use crate::row::flag;
-use crate::row::inferred;
-use crate::row::leb128;
+use crate::row::*;
 use bits::answer::Cursor;
 
 // 5.3.3

@@ -1,8 +1,6 @@
 // A refusal: document 01's number, and its sentence.
-use crate::out::decimal;
-use crate::out::text;
-use bits::answer::Refusal;
-use bits::answer::numbers;
+use crate::out::*;
+use bits::answer::*;
 use lines::answer::write;
 use words::explain;
 

@@ -1,12 +1,6 @@
 // One row: place, width, name and value, in columns. A field that is not coded has `-` for place and width, and the mark `inferred`.
-use bits::answer::Cursor;
-use bits::answer::GotNumber;
-use bits::answer::GotSize;
-use bits::answer::LIMIT;
-use lines::answer::byte;
-use lines::answer::decimal;
-use lines::answer::text;
-use lines::answer::write;
+use bits::answer::*;
+use lines::answer::*;
 
 // Where a row's numbers end, and its words begin.
 const PLACE: usize = 7;

@@ -1,8 +1,5 @@
 // 5.5.3 timing_info, 5.5.4 decoder_model_info, and the lines of 5.5.1 that they stand in.
-use crate::row::f;
-use crate::row::flag;
-use crate::row::flag_if;
-use crate::row::uvlc;
+use crate::row::*;
 use bits::answer::Cursor;
 
 fn timing_info(s: &[u8], c: Cursor, equal_picture_interval: bool) -> Cursor {

@@ -1,9 +1,5 @@
 // The coding tools of 5.5.1.
-use crate::row::f;
-use crate::row::f_if;
-use crate::row::flag;
-use crate::row::flag_if;
-use crate::row::inferred;
+use crate::row::*;
 use bits::answer::Cursor;
 use sequence_reader::place;
 

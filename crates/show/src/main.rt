@@ -2,9 +2,7 @@
 use bits::answer::Refusal;
 use libc::STDIN_FILENO;
 use libc::STDOUT_FILENO;
-use lines::answer::byte;
-use lines::answer::hex;
-use lines::answer::write;
+use lines::answer::*;
 use listing::list::list;
 use listing::refusal::refusal;
 use listing::row::put_right;
