@@ -8,7 +8,7 @@ import random
 import sys
 
 from lines import FIELDS, LIMITS, NO_POINT, POINT, Record, altered, numbers
-from model import WALKS, Refused, Writer
+from model import DEFAULT_REF_DELTAS, WALKS, Refused, Writer
 
 # Numbers on both sides of the boundaries of the fields' widths.
 EDGES = {
@@ -180,8 +180,17 @@ class Maker(random.Random):
         p.loop_filter_sharpness = self.any() if off else self.upto(7)
         p.loop_filter_delta_enabled, p.loop_filter_delta_update = self.flag(), self.flag()
         written = p.loop_filter_delta_enabled and p.loop_filter_delta_update
-        p.loop_filter_ref_deltas = [1, 0, 0, 0, 0, -1, -1, -1] if off else [self.delta() if written else self.any("i8") for _ in range(8)]
+        p.loop_filter_ref_deltas = list(DEFAULT_REF_DELTAS) if off else [self.delta() if written else self.any("i8") for _ in range(8)]
         p.loop_filter_mode_deltas = [0, 0] if off else [self.delta() if written else self.any("i8") for _ in range(2)]
+        return p
+
+    def exchanged_lf(self):
+        """Uncoded, with two places of the default deltas exchanged; those in which the crate's list differs more often."""
+        p = self.lf()
+        while not (p.coded_lossless or p.allow_intrabc):
+            p = self.lf()
+        deltas, (i, j) = p.loop_filter_ref_deltas, self.choice(((4, 5), self.sample(range(8), 2)))
+        deltas[i], deltas[j] = deltas[j], deltas[i]
         return p
 
     def cdef(self):
@@ -367,6 +376,9 @@ def make(seed=1, scale=1.0, plan=PLAN):
         if word == "seq":
             for _ in range(max(40, round(400 * scale))):
                 yield maker.line(word, maker.large_seq())
+        if word == "lf":
+            for _ in range(max(40, round(4000 * scale))):
+                yield maker.line(word, maker.exchanged_lf())
 
 
 if __name__ == "__main__":

@@ -1,7 +1,7 @@
 #!/usr/bin/env python3
-"""What the writers must answer to case lines, read from document 01 and, for the order of the checks, from source document 000, to which it leaves
-that order: a third reading, beside the definitions that the proofs cite and the crate's Rust. It shares no text with either. One function for
-each section of the standard, in the standard's order.
+"""What the writers must answer to case lines, read from document 01, as the requests that have landed amend it (docs/requests), and, for the order of the
+checks, from source document 000, to which it leaves that order: a third reading, beside the definitions that the proofs cite and the crate's Rust. It
+shares no text with either. One function for each section of the standard, in the standard's order.
 
     oracle/model.py < cases > answers
 """
@@ -25,6 +25,9 @@ ELEMENTS.update(enumerate("""base_q_idx delta_q_y_dc diff_uv_delta delta_q_u_dc 
     loop_filter_ref_deltas loop_filter_mode_deltas loop_filter_sharpness cdef_bits cdef_y_pri_strength cdef_y_sec_strength
     cdef_uv_pri_strength cdef_uv_sec_strength cdef_damping frame_restoration_type uses_lr uses_chroma_lr lr_unit_shift lr_uv_shift""".split(), 51))
 NUMBER = {name: number for number, name in ELEMENTS.items()}
+
+# The standard's defaults, by reference number: intra, LAST, LAST2, LAST3, GOLDEN, BWDREF, ALTREF2, ALTREF (request 2).
+DEFAULT_REF_DELTAS = [1, 0, 0, 0, -1, 0, -1, -1]
 
 
 class Refused(Exception):
@@ -326,7 +329,7 @@ class Writer:
     def loop_filter_params(self, p):
         if p.coded_lossless or p.allow_intrabc:
             self.demand(p.loop_filter_level[:2] == [0, 0], "loop_filter_level")
-            self.demand(p.loop_filter_ref_deltas == [1, 0, 0, 0, 0, -1, -1, -1], "loop_filter_ref_deltas")
+            self.uncoded_ref_deltas(p.loop_filter_ref_deltas)
             self.demand(p.loop_filter_mode_deltas == [0, 0], "loop_filter_mode_deltas")
             return
         for i in range(4 if self.chroma_levels_coded(p) else 2):
@@ -340,6 +343,9 @@ class Writer:
                     self.loop_filter_delta(p.loop_filter_ref_deltas[i], "loop_filter_ref_deltas", i)
                 for i in range(2):
                     self.loop_filter_delta(p.loop_filter_mode_deltas[i], "loop_filter_mode_deltas", i)
+
+    def uncoded_ref_deltas(self, deltas):
+        self.demand(deltas == DEFAULT_REF_DELTAS, "loop_filter_ref_deltas")
 
     def chroma_levels_coded(self, p):
         return p.planes != 1 and p.loop_filter_level[:2] != [0, 0]

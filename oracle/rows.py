@@ -5,7 +5,7 @@ the crate's answer to the letter, also which bits were out before a refusal; eac
 disagreement only if it says exactly what the crate answered.
 """
 from lines import WHOLE, altered
-from model import ELEMENTS, WALKS, Writer, stored
+from model import DEFAULT_REF_DELTAS, ELEMENTS, WALKS, Writer, stored
 
 RULES = {
     1: "the crate's bytes or bits so far are in the buffer; where this row decides, both refuse under the same name",
@@ -30,6 +30,7 @@ RULES = {
     25: "restoration kinds: the crate writes three planes in its own numbering",
     26: "lr_unit_shift 2, small superblock: the crate writes 0, 1",
     27: "lr_unit_shift of 3 and up, small superblock: the crate writes its low bit and a 1",
+    28: "reference deltas where none are coded: the crate demands its own list, with places 4 and 5 of the standard's exchanged",
     30: "the buffer ends too early: the crate fills it and gives up, where it is, with an input/output error",
     31: "a slice over 65,536 bytes: the crate takes it",
 }
@@ -45,6 +46,9 @@ STEERS = {"seq_level_idx": lambda v: v > 7, "frame_width_bits_minus_1": lambda v
 
 # The crate's numbers of the coded kinds none, switchable, Wiener, self-guided.
 OWN_KINDS = (0, 3, 1, 2)
+
+# The crate's default reference deltas.
+OWN_REF_DELTAS = [1, 0, 0, 0, 0, -1, -1, -1]
 
 
 class Stop(Exception):
@@ -140,6 +144,11 @@ class Crate(Writer):
             self.row(13)
 
     # 5.9.11
+    def uncoded_ref_deltas(self, deltas):
+        if deltas == OWN_REF_DELTAS or deltas == DEFAULT_REF_DELTAS and not self.release:
+            self.row(28)
+        self.demand(deltas == OWN_REF_DELTAS, "loop_filter_ref_deltas")
+
     def chroma_levels_coded(self, p):
         both = p.planes != 1 and p.loop_filter_level[0] != 0 and p.loop_filter_level[1] != 0
         if both != super().chroma_levels_coded(p):

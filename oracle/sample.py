@@ -61,7 +61,7 @@ def shows(line, ours, hit):
         yield word, numbers[0] == 0, "header", record.extension_flag, record.has_size_field
         yield word, numbers[0] == 0, "points", min(record.operating_points_cnt_minus_1, 2), record.given > record.operating_points_cnt_minus_1
     for row in hit:
-        yield "row", row, word, row == hit[0]
+        yield "row", row, word, row == hit[0], numbers[0] == 0
 
 
 def choose(made, crate, ours):

@@ -1,8 +1,8 @@
 #!/usr/bin/env python3
 """Writes case lines for the program `replay`, and the answers that it must give:
     tests/replay.py crates/replay
-The answers stand here, from document 01: its worked table, its rules in words, and, where a line is not of the table, the bits that the
-standard's syntax tables give, written out. Further lines come with their answers from tests/vectors and tests/streams. Nothing is taken from the program.
+The answers stand here, from document 01: its worked table, its rules in words, as the requests amend them, and, where a line is not of the table, the
+bits that the standard's syntax tables give, written out. Further lines come with their answers from tests/vectors and tests/streams. Nothing is taken from the program.
 """
 import pathlib
 import sys
@@ -83,7 +83,8 @@ def quant(base, delta):
 
 
 SEG = "seg 7 0 0 0 0" + " 0" * 128
-LOSSLESS = "lf 1 0 3 0 0 0 0 0 0 0 1 0 0 0 0 -1 -1 -1 0 0"
+UNCODED = "lf %d %d 3 0 0 0 0 0 0 0 %s 0 0 ; buf=A5"
+DEFAULT_DELTAS, EXCHANGED = "1 0 0 0 -1 0 -1 -1", "1 0 0 0 0 -1 -1 -1"
 CDEF = "cdef 0 0 1 1 0 3" + " 1" + " 0" * 7 + " 4" + " 0" * 7 + " 0" * 16
 LR = "lr 0 0 1 1 0 1 1 2 0 0 1 0 %d 0"
 
@@ -116,7 +117,9 @@ for shift, bits in (0, "0"), (1, "10"), (2, "11"):
 
 # Every other word; settings; bits and bytes that are not written are kept.
 case(SEG, "0 1 " + packed("0"))
-case(LOSSLESS, "0 0 " + zeros(""))
+for lossless, intrabc in (1, 0), (0, 1), (1, 1):
+    case(UNCODED % (lossless, intrabc, DEFAULT_DELTAS), "0 0 A5")
+    case(UNCODED % (lossless, intrabc, EXCHANGED), "1 67 0 A5")
 case("payload 0A0418000011", "2 4")
 case("payload 0A840018000011", "3 4")
 case("payload 0A", "0 0")

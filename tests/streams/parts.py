@@ -9,8 +9,8 @@ import sequence
 KEY_FRAME = 0
 PRIMARY_REF_NONE = 7
 
-# What the record must hold where the loop filter is not coded: document 01's list, and no mode deltas
-DEFAULT_DELTAS = [1, 0, 0, 0, 0, -1, -1, -1, 0, 0]
+# What the record must hold where the loop filter is not coded: the standard's defaults of the eight references and the two modes
+DEFAULT_DELTAS = [1, 0, 0, 0, -1, 0, -1, -1, 0, 0]
 
 FEATURE_BITS = [8, 6, 6, 6, 6, 3, 0, 0]
 FEATURE_LIMITS = [255, 63, 63, 63, 63, 7, 0, 0]

@@ -60,10 +60,11 @@ rest old =
 unfoldable pub filter-on : ℕ → Deltas → Codec (Levels × Rest)
 filter-on planes old = levels planes ▷ λ _. rest old
 
--- Under lossless coding or intra block copy nothing is coded: levels 0 and 1 are 0, and the deltas are these.
--- Difference (docs/DIFFERENCES.md, row 28): this is the crate's list, as document 01 has it. The standard's is 1, 0, 0, 0, -1, 0, -1, -1.
+-- Under lossless coding or intra block copy nothing is coded: levels 0 and 1 are 0, and the deltas are the standard's defaults.
+-- By reference number: 1 for intra, 0 for LAST, LAST2 and LAST3, -1 for GOLDEN, 0 for BWDREF, -1 for ALTREF2 and ALTREF.
+-- Difference (docs/DIFFERENCES.md, row 28): the crate has places 4 and 5 exchanged.
 abbrev pub default-deltas : List ℤ
-default-deltas = pos 1 ∷ pos 0 ∷ pos 0 ∷ pos 0 ∷ pos 0 ∷ negsuc 0 ∷ negsuc 0 ∷ negsuc 0 ∷ []
+default-deltas = pos 1 ∷ pos 0 ∷ pos 0 ∷ pos 0 ∷ negsuc 0 ∷ pos 0 ∷ negsuc 0 ∷ negsuc 0 ∷ []
 
 unfoldable pub default-refs : Codec (List ℤ)
 default-refs = array (pos 0) (λ i. inferredSigned loop-filter-ref-deltas (getD default-deltas i (pos 0))) 8 0 8

@@ -14,8 +14,8 @@ ghost use Rattle.bits.specs.Walk.{Walked};
 ghost use Rattle.parts.specs.Written.{Writes};
 ghost use Rattle.loop_filter.specs.LoopFilter.{chroma-coded, chroma-levels, levels, levels-out, delta, ref-deltas, mode-deltas, modes-out, deltas, deltas-out, delta-update, update-out, rest, rest-out, filter-on, default-deltas, default-refs, default-modes, no-levels, filter-off, loop-filter-out, loop-filter-params, no-old};
 
-// The deltas of the references where none are coded.
-const DEFAULT_DELTAS: [i8; 8] = [1, 0, 0, 0, 0, -1, -1, -1];
+// The deltas of the references where none are coded: intra, LAST, LAST2, LAST3, GOLDEN, BWDREF, ALTREF2, ALTREF.
+const DEFAULT_DELTAS: [i8; 8] = [1, 0, 0, 0, -1, 0, -1, -1];
 
 fn chroma_coded(planes: u32, a: u32, b: u32) -> bool
     ensures { λ r. ⌜ r ≡ chroma-coded planes a b ⌝ }
