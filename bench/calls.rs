@@ -18,7 +18,7 @@ fn small() -> Record {
     let mut frame = FrameHeaderObu::default();
     frame.primary_ref_frame = PRIMARY_REF_NONE;
     frame.cdef_params.cdef_damping = 3;
-    frame.loop_filter_params.loop_filter_ref_deltas = [1, 0, 0, 0, 0, -1, -1, -1];
+    frame.loop_filter_params.loop_filter_ref_deltas = [1, 0, 0, 0, -1, 0, -1, -1];
     Record { sequence, frame }
 }
 

@@ -68,8 +68,8 @@ static const struct friscurella_quantization_params quant_10 = {.context = {1, 0
 static const struct friscurella_quantization_params quant_50 = {{3, 1}, 255, -64, 1, 63, -3, 4, -5, 1, 15, 3, 4};
 static const struct friscurella_segmentation_params seg_51 = {.context = {FRISCURELLA_PRIMARY_REF_NONE}};
 static struct friscurella_segmentation_params seg_52 = {{FRISCURELLA_PRIMARY_REF_NONE}, 1, 1, 0, 1, {{0}}, {{0}}};
-static const struct friscurella_loop_filter_params lf_53 = {{0, 0, 3}, {10, 12, 0, 0}, 3, 0, 0, {1, 0, 0, 0, 0, -1, -1, -1}, {0, 0}};
-static const struct friscurella_loop_filter_params lf_54 = {{0, 0, 3}, {10, 12, 20, 21}, 7, 1, 1, {1, 0, 0, 0, 0, -1, -1, -1}, {-64, 63}};
+static const struct friscurella_loop_filter_params lf_53 = {{0, 0, 3}, {10, 12, 0, 0}, 3, 0, 0, FRISCURELLA_DEFAULT_REF_DELTAS, {0, 0}};
+static const struct friscurella_loop_filter_params lf_54 = {{0, 0, 3}, {10, 12, 20, 21}, 7, 1, 1, FRISCURELLA_DEFAULT_REF_DELTAS, {-64, 63}};
 static const struct friscurella_cdef_params cdef_11 = {{0, 0, 1, 1}, 0, 3, {1}, {4}, {0}, {0}};
 static const struct friscurella_cdef_params cdef_56 = {
   {0, 0, 1, 3}, 3, 6, {0, 1, 2, 3, 4, 5, 6, 7}, {0, 1, 2, 4, 0, 1, 2, 4}, {15, 15, 15, 15, 15, 15, 15, 15}, {4, 4, 4, 4, 4, 4, 4, 4}};

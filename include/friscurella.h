@@ -15,7 +15,7 @@ extern "C" {
 #endif
 
 /* The version of this header: 10000 * major + 100 * minor + patch. */
-#define FRISCURELLA_VERSION 200
+#define FRISCURELLA_VERSION 300
 
 /* The version of the library. A program that finds another than FRISCURELLA_VERSION is linked with
    an archive that this header does not describe. */
@@ -35,6 +35,10 @@ enum {
   FRISCURELLA_SELECT_INTEGER_MV = 2,           /* each frame header chooses */
   FRISCURELLA_PRIMARY_REF_NONE = 7             /* primary_ref_frame: there is none */
 };
+
+/* An initializer of loop_filter_ref_deltas where nothing is coded. By reference number: intra, LAST,
+   LAST2, LAST3, GOLDEN, BWDREF, ALTREF2, ALTREF. */
+#define FRISCURELLA_DEFAULT_REF_DELTAS {1, 0, 0, 0, -1, 0, -1, -1}
 
 /* ANSWERS */
 
@@ -348,8 +352,8 @@ struct friscurella_loop_filter_params {
   int32_t loop_filter_delta_enabled;  /* f(1) */
   int32_t loop_filter_delta_update;   /* f(1), with loop_filter_delta_enabled */
   int32_t loop_filter_ref_deltas[8];  /* a set flag and su(7) each, where
-                                         loop_filter_delta_update is coded and set; 1, 0, 0, 0,
-                                         0, -1, -1, -1 where nothing is coded */
+                                         loop_filter_delta_update is coded and set;
+                                         FRISCURELLA_DEFAULT_REF_DELTAS where nothing is coded */
   int32_t loop_filter_mode_deltas[2]; /* the same; 0, 0 where nothing is coded */
 };
 

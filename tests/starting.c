@@ -1,5 +1,6 @@
 /* What a new program calls first: the version agrees, the starter record is accepted for the sizes
-   and depths that it is for and refused for others, and a sentence is cut as snprintf cuts. */
+   and depths that it is for and refused for others, the default deltas are accepted and no others,
+   and a sentence is cut as snprintf cuts. */
 #include <stdio.h>
 #include <string.h>
 
@@ -66,6 +67,37 @@ static void video(void) {
     check(!accepted(1920, 1080, no_depths[k]), "refused", 1920, 1080, no_depths[k]);
 }
 
+/* Whether these reference deltas are taken where nothing is coded; if not, they are to blame. */
+static bool taken(const int32_t *deltas) {
+  struct friscurella_loop_filter_params params;
+  struct friscurella_answer answer;
+  uint8_t out[1] = {PATTERN};
+  memset(&params, 0, sizeof params);
+  params.context.coded_lossless = 1;
+  memcpy(params.loop_filter_ref_deltas, deltas, sizeof params.loop_filter_ref_deltas);
+  uint32_t number = friscurella_write_loop_filter_params(&params, 5, out, sizeof out, &answer);
+  if (number == FRISCURELLA_DONE) return answer.first == 5 && out[0] == PATTERN;
+  bool named = answer.first == FRISCURELLA_ELEMENT_LOOP_FILTER_REF_DELTAS && answer.second == 0;
+  bool refused = number == FRISCURELLA_INCONSISTENT && named && out[0] == PATTERN;
+  check(refused, "refused under loop_filter_ref_deltas", number, answer.first, answer.second);
+  return false;
+}
+
+static void defaults(void) {
+  static const int32_t standard[8] = FRISCURELLA_DEFAULT_REF_DELTAS;
+  int32_t deltas[8];
+  check(taken(standard), "the default deltas are taken", 0, 0, 0);
+  for (uint32_t i = 0; i < 8; i++) {
+    memcpy(deltas, standard, sizeof deltas);
+    deltas[i]--;
+    check(!taken(deltas), "another delta is refused", i, 0, 0);
+  }
+  memcpy(deltas, standard, sizeof deltas);
+  deltas[4] = standard[5];
+  deltas[5] = standard[4];
+  check(!taken(deltas), "exchanged deltas are refused", 4, 5, 0);
+}
+
 /* Whether `text` holds as much of a sentence as goes into `size` bytes, then the pattern. */
 static bool cut(const char *text, const char *whole, size_t length, size_t size) {
   size_t kept = size == 0 ? 0 : length < size ? length : size - 1;
@@ -107,7 +139,8 @@ static void sentences(void) {
 int main(void) {
   check(friscurella_version() == FRISCURELLA_VERSION, "the version", friscurella_version(), 0, 0);
   video();
+  defaults();
   sentences();
-  if (failures == 0) printf("starting: version, starter record and sentences are as promised\n");
+  if (failures == 0) printf("starting: version, starter record, defaults, sentences: as promised\n");
   return failures != 0;
 }

@@ -151,6 +151,10 @@ fn constants_are_those_of_the_c_header() {
     let theirs = constants("");
     assert_same(&theirs[..ours.len()], &ours);
     assert_eq!(theirs[ours.len()].0, "DONE");
+    let deltas = format!("{DEFAULT_REF_DELTAS:?}");
+    let deltas = deltas.trim_matches(['[', ']']);
+    let define = format!("#define FRISCURELLA_DEFAULT_REF_DELTAS {{{deltas}}}");
+    assert!(HEADER.lines().any(|line| line == define), "{define}");
 }
 
 #[test]

@@ -25,6 +25,10 @@ pub const SELECT_INTEGER_MV: u32 = 2;
 /// `primary_ref_frame` where there is none.
 pub const PRIMARY_REF_NONE: u32 = 7;
 
+/// `loop_filter_ref_deltas` where nothing is coded. By reference number: intra, LAST, LAST2, LAST3,
+/// GOLDEN, BWDREF, ALTREF2, ALTREF.
+pub const DEFAULT_REF_DELTAS: [i8; 8] = [1, 0, 0, 0, -1, 0, -1, -1];
+
 record! {
     /// `obu_header` (5.3.2).
     #[derive(Clone, Copy, Debug, Default, PartialEq, Eq, Hash)]
@@ -347,8 +351,8 @@ record! {
         pub loop_filter_delta_enabled: bool,
         /// f(1), with `loop_filter_delta_enabled`.
         pub loop_filter_delta_update: bool,
-        /// A set flag and su(7) each, where `loop_filter_delta_update` is coded and set; 1, 0, 0,
-        /// 0, 0, -1, -1, -1 where nothing is coded.
+        /// A set flag and su(7) each, where `loop_filter_delta_update` is coded and set;
+        /// [`DEFAULT_REF_DELTAS`] where nothing is coded.
         pub loop_filter_ref_deltas: [i8; 8],
         /// A set flag and su(7) each, where `loop_filter_delta_update` is coded and set; 0, 0 where
         /// nothing is coded.

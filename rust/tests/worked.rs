@@ -453,6 +453,35 @@ fn loop_filter() {
     );
 }
 
+/// Where nothing is coded, the reference deltas are the standard's defaults, place by place.
+#[test]
+fn loop_filter_defaults() {
+    for (coded_lossless, allow_intrabc) in [(true, false), (false, true)] {
+        let context = LoopFilterContext {
+            coded_lossless,
+            allow_intrabc,
+            planes: 3,
+        };
+        let with = |loop_filter_ref_deltas| {
+            let params = LoopFilterParams {
+                loop_filter_ref_deltas,
+                ..Default::default()
+            };
+            write_loop_filter_params(&params, &context, &mut [], 0)
+        };
+        let refused = |deltas| inconsistent(with(deltas)) == (Element::LoopFilterRefDeltas, 0);
+        assert_eq!(with(DEFAULT_REF_DELTAS), Ok(0));
+        for i in 0..8 {
+            let mut deltas = DEFAULT_REF_DELTAS;
+            deltas[i] += 1;
+            assert!(refused(deltas));
+        }
+        let mut exchanged = DEFAULT_REF_DELTAS; // as cros-codecs has them
+        exchanged.swap(4, 5);
+        assert!(refused(exchanged));
+    }
+}
+
 #[test]
 fn a_part_keeps_the_bits_around_it() {
     let context = LoopRestorationContext {

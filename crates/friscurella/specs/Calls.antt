@@ -16,7 +16,7 @@ use Rattle.sequence_reader.specs.declared.read.Outcome.the-variants.{Done, Refu
 
 -- 10000 * major + 100 * minor + patch
 abbrev pub version : ℕ
-version = 200
+version = 300
 
 -- an answer: its number and its three values, of which no answer uses the third
 abbrev pub answer-of : Numbered → List ℕ
