@@ -52,6 +52,16 @@ def gather(scratch):
     return list(headers.values()), cases, others
 
 
+def uncoded_deltas(scratch):
+    """How many pictures have a loop filter that is not coded. The deltas that dav1d holds for them must be those of the records."""
+    run(["cc", "-O1", str(HERE / "deltas.c"), "-o", "deltas", "-ldav1d"], scratch)
+    held = collections.Counter()
+    for stream in settings.streams():
+        held.update(run(["deltas", stream.out()], scratch).splitlines())
+    assert list(held) == [" ".join(map(str, parts.DEFAULT_DELTAS))], f"dav1d holds {held}"
+    return held.total()
+
+
 def interleaved(cases):
     """The cases with the encoders taking turns."""
     turns = collections.Counter()
@@ -105,7 +115,7 @@ def write_parts(cases):
     write("parts.txt", [[f"# {stream.name}, frame {number}"] + part.lines() for stream, number, part in cases])
 
 
-def report(headers, cases, kept, others):
+def report(headers, cases, kept, others, uncoded):
     print("encoder: streams, sequence headers, frames, parts kept")
     for encoder in settings.ENCODERS:
         streams = sum(stream.encoder == encoder for stream in settings.streams())
@@ -120,6 +130,7 @@ def report(headers, cases, kept, others):
         records = len({tuple(part.numbers) for part in all_parts})
         print(f"{word}: {len(all_parts)}, {records}, {len(mine)}, {len({part.place % 8 for part in mine})}, {others[word]}")
     print(f"sequence headers: {len(headers)}")
+    print(f"pictures with an uncoded loop filter, whose deltas are dav1d's: {uncoded}")
 
 
 def main():
@@ -128,10 +139,11 @@ def main():
     if sys.argv[2:] != ["read"]:
         make_streams(scratch)
     headers, cases, others = gather(scratch)
+    uncoded = uncoded_deltas(scratch)
     kept = choose(interleaved(cases))
     write_headers(headers)
     write_parts(kept)
-    report(headers, cases, kept, others)
+    report(headers, cases, kept, others, uncoded)
 
 
 main()
