@@ -36,7 +36,8 @@ def shows_read(line, ours):
 
 
 def shows(line, ours, hit):
-    """What a line shows: an element refused, a row that decides or takes part, a bit place, a length beside the need, a field's number at an edge."""
+    """What a line shows: an element refused, a row that decides or takes part (where we write, and where we refuse), a bit place, a length beside the
+    need, a field's number at an edge."""
     word, record, buffer, place = lines.parse(line)
     numbers = [int(x) for x in ours.split()[:3]] if ours[0] != "0" else [0]
     if numbers[0] and len(buffer) < 3:
