@@ -37,7 +37,8 @@ enum {
 };
 
 /* An initializer of loop_filter_ref_deltas where nothing is coded. By reference number: intra, LAST,
-   LAST2, LAST3, GOLDEN, BWDREF, ALTREF2, ALTREF. */
+   LAST2, LAST3, GOLDEN, BWDREF, ALTREF2, ALTREF. (Before version 300, and in cros-codecs 0.0.6, the
+   values of GOLDEN and BWDREF are exchanged: such a record is refused now.) */
 #define FRISCURELLA_DEFAULT_REF_DELTAS {1, 0, 0, 0, -1, 0, -1, -1}
 
 /* ANSWERS */

@@ -26,7 +26,8 @@ pub const SELECT_INTEGER_MV: u32 = 2;
 pub const PRIMARY_REF_NONE: u32 = 7;
 
 /// `loop_filter_ref_deltas` where nothing is coded. By reference number: intra, LAST, LAST2, LAST3,
-/// GOLDEN, BWDREF, ALTREF2, ALTREF.
+/// GOLDEN, BWDREF, ALTREF2, ALTREF. (Before 0.3.0, and in cros-codecs 0.0.6, the values of GOLDEN and
+/// BWDREF are exchanged: such a record is refused now.)
 pub const DEFAULT_REF_DELTAS: [i8; 8] = [1, 0, 0, 0, -1, 0, -1, -1];
 
 record! {
