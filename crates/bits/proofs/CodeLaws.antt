@@ -7,6 +7,7 @@ use native.Mathlib.Omega.{arith}
 use lib.ListN.{length, length-append, replicate}
 use lib.Dec.{ltb, leb, lit<}
 use native.Mathlib.Nat.{div-lt-iff-lt-mul, pow-suc, zero-div}
+use lib.Count.{leadingZeros, leading-top}
 use lib.Pow.{pow-pos, pow-mono}
 use lib.IntN.{ℤ, pos, negsuc}
 use borrow.Author.Tests.{lt-ltb, le-ltb, le-leb, lt-leb, ltb-true, leb-true, ltb-false, leb-false}
@@ -91,6 +92,12 @@ top-at (suc k) z w h l u = go (leb z k) refl (top-at k z w)
         let zk : k < z = leb-false z k e in
         let q : z ≡ suc k = omega arith in
         rw (le-leb (2 ^ suc k) w (rw q at l)) (sym q)
+
+-- A number of 32 bits has leading zeros, its highest one and the bits below that: its bit length is all but the zeros.
+pub bit-length : (w : ℕ) → 0 < w → w < 2 ^ 32 → 32 - leadingZeros 32 w ≡ topBit 32 w + 1
+bit-length w some few =
+    let t = leading-top 32 w some few in
+    omega (arith, t .1, top-at 32 (t .0) w (omega (arith, t .1)) (t .2) (t .3))
 
 uvlc-back : (z x : ℕ) → z ≤ 31 → x < 2 ^ z → uvlc-out (2 ^ z + x - 1) ≡ (z, x)
 uvlc-back z x h l =

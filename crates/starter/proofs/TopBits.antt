@@ -1,13 +1,15 @@
 -- The highest one of a number, and the bits that hold it.
 use mathlib.Core.Path.{_≡_, refl}
 use mathlib.Core.Bool.{Bool, true, false, cond}
-use Prim.Native.Nat.{ℕ, zero, suc, _+_, _^_, _≤_, _<_}
+use Prim.Native.Nat.{ℕ, zero, suc, _+_, _-_, _^_, _≤_, _<_}
 use native.Mathlib.Numerals.{add-one}
 use native.Mathlib.Omega.{arith}
+use lib.Count.{leadingZeros}
 use lib.Dec.{leb}
 use lib.Pow.{pow-mono}
 use borrow.Author.Tests.{leb-true, leb-false}
 use Rattle.bits.specs.Codes.{topBit}
+use Rattle.bits.proofs.CodeLaws.{bit-length}
 
 holds-suc : (k v : ℕ) → v < 2 ^ suc k → v < 2 ^ suc (topBit k v)
 unfolding topBit
@@ -49,3 +51,15 @@ many k m v h l = go (leb m (topBit k v)) refl
         let p : 2 ^ suc (topBit k v) ≤ 2 ^ m = pow-mono (omega arith) in
         let q = holds-suc k v h in
         absurd (omega arith)
+
+-- the code takes the place from the zeros above it
+pub top-none : (v : ℕ) → v ≡ 0 → 0 ≡ topBit 32 v
+unfolding topBit
+top-none v h = rw h
+
+module _ (v : ℕ) (few : v < 2 ^ 32) (some : v ≡ 0 → ⊥) where
+  pub zeros-above : leadingZeros 32 v ≤ 31
+  zeros-above = omega (arith, bit-length v (omega arith) few)
+
+  pub top-is : 31 - leadingZeros 32 v ≡ topBit 32 v
+  top-is = omega (arith, bit-length v (omega arith) few)

@@ -1,7 +1,7 @@
 // A record to start from, which the writer accepts: an ordinary video.
 use sequence_reader::place;
-use writer::number::top_bit;
 ghost use mathlib.Core.Path.{_≡_};
+ghost use Rattle.bits.specs.Codes.{topBit};
 ghost use Rattle.sequence_reader.specs.Layouts.{numbers-of};
 ghost use Rattle.starter.specs.Video.{minus-1, profile, video};
 
@@ -12,6 +12,17 @@ fn minus_1(size: u32) -> u32
     ensures { λ r. ⌜ r ≡ minus-1 size ⌝ }
 {
     if size == 0 { u32::MAX } else { size - 1 }
+}
+
+// The place of the highest one of v, by the zeros above it.
+fn top_bit(v: u32) -> u32
+    ensures { λ r. ⌜ r ≡ topBit 32 v ⌝ }
+{
+    if v == 0 {
+        0
+    } else {
+        31 - u32::leading_zeros(v)
+    }
 }
 
 fn profile(bit_depth: u32) -> u32
@@ -31,8 +42,8 @@ pub fn video(width: u32, height: u32, bit_depth: u32, numbers: &mut [u32; 347])
     n[place::HAS_SIZE_FIELD] = 1;
     n[place::SEQ_PROFILE] = profile(bit_depth);
     n[FIRST_LEVEL] = 31;
-    n[place::FRAME_WIDTH_BITS_MINUS_1] = top_bit(w as u64);
-    n[place::FRAME_HEIGHT_BITS_MINUS_1] = top_bit(h as u64);
+    n[place::FRAME_WIDTH_BITS_MINUS_1] = top_bit(w);
+    n[place::FRAME_HEIGHT_BITS_MINUS_1] = top_bit(h);
     n[place::MAX_FRAME_WIDTH_MINUS_1] = w;
     n[place::MAX_FRAME_HEIGHT_MINUS_1] = h;
     n[place::USE_128X128_SUPERBLOCK] = 1;

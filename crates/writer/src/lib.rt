@@ -1,5 +1,5 @@
 // The bit writer: the codes of 4.10 written, and checks. Each step answers the next place or the refusal.
-pub mod number; // number.rt: the highest one of a number, and signs
+mod number; // number.rt: the highest one of a number, and signs
 pub mod store; // store.rt: bits stored in bytes
 
 use crate::number::*;

@@ -10,8 +10,8 @@ returns : tie.Need-returns
 unfolding numbers-of video at of each nowhere _▸_ _▹_
 returns c =
     rw (
-      c .top-bit2 .ensures .0,
-      c .before .top-bit .ensures .0,
+      c .top-bit2 .ensures,
+      c .before .top-bit .ensures,
       c .before .before .profile .ensures,
       c .before .before .before .minus-12 .ensures,
       c .before .before .before .before .minus-1 .ensures,
@@ -23,8 +23,8 @@ video-spec =
     (tie.spec
     (λ c κs. search needs) (λ c κs. search needs)
     (λ c. search needs) (λ c. search needs) (λ c κs. search needs) (λ c. search needs) (λ c. search needs)
-    (λ c. search needs) (λ c κs. search needs) (λ c. search needs)
-    (λ c. search needs) (λ c κs. search needs) (λ c. search needs)
+    (λ c κs. search needs) (λ c. search needs)
+    (λ c κs. search needs) (λ c. search needs)
     (λ c. search needs) (λ c. search needs)
     (λ c. search needs) (λ c. search needs) (λ c. search needs) (λ c. search needs) (λ c. search needs) (λ c. search needs) (λ c. search needs) (λ c. search needs) (λ c. search needs) (λ c. search needs)
     (λ c. search needs) (λ c. search needs) (λ c. search needs) (λ c. search needs)
