@@ -13,3 +13,4 @@ pub mod Signs
 pub mod Reading
 pub mod Bounds
 pub mod RoundTrip
+pub mod Uvlc

@@ -36,6 +36,21 @@ uvlc-in p = 2 ^ p .0 + p .1 - 1
 unfoldable pub uvlc : ℕ → ℕ → Codec ℕ
 uvlc e i = recode uvlc-out uvlc-in (unary 31 e i ▷ λ z. f z e i)
 
+-- uvlc in document 01's words; `uvlc-same` in proofs/Uvlc.antt says that it is uvlc.
+
+-- the zeros before the next one, at most m: reading one more is refusal 1
+unfoldable pub zerosBefore : ℕ → ℕ → ℕ → Bits → Got ℕ
+zerosBefore m e i [] = stop Ends
+zerosBefore m e i (true ∷ bs) = got 0 (true ∷ bs)
+zerosBefore zero e i (false ∷ bs) = stop (Inconsistent e i)
+zerosBefore (suc m) e i (false ∷ bs) = andThen (zerosBefore m e i bs) (λ z rest. got (suc z) rest)
+
+-- with L the bit length of v + 1, one more than the place of its highest one, L - 1 zeros and then v + 1 in L bits
+unfoldable pub uvlc-by-length : ℕ → ℕ → Codec ℕ
+uvlc-by-length e i = single
+    (λ v. let L = topBit 32 (v + 1) + 1 in demand (ltb v (2 ^ 32 - 1)) (Unfit e i) ⊕ field (L - 1) 0 0 0 ⊕ field L (v + 1) e i)
+    (λ bs. andThen (zerosBefore 31 e i bs) (λ z rest. andThen (f (z + 1) e i .dec rest) (λ w end. got (w - 1) end)))
+
 -- su(n): two's complement in n bits; a number out of range goes to 2^n, which no n bits hold. (`pos m` is m, and `negsuc m` is -(m + 1).)
 abbrev pub su-out : ℕ → ℤ → ℕ
 su-out n (pos m) = cond (ltb (m * 2) (2 ^ n)) m (2 ^ n)
