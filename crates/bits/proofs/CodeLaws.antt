@@ -1,82 +1,71 @@
 -- uvlc, su(n) and leb128 keep the laws.
 use mathlib.Core.Path.{_≡_, refl, sym, _∙_, ap, subst}
-use mathlib.Core.List.{[], _∷_, _++_}
+use mathlib.Core.List.{[], _∷_, _++_, append-assoc}
 use mathlib.Core.Bool.{Bool, true, false, cond}
 use Prim.Native.Nat.{ℕ, zero, suc, _+_, _-_, _*_, _^_, _/_, _%_, _<_, _≤_}
 use native.Mathlib.Omega.{arith}
 use lib.ListN.{length, length-append, replicate}
 use lib.Dec.{ltb, leb, lit<}
-use native.Mathlib.Nat.{div-lt-iff-lt-mul, pow-suc, zero-div}
+use native.Mathlib.Nat.{div-lt-iff-lt-mul, div-eq-of-lt-le, pow-suc, zero-div}
+use native.Mathlib.Numerals.{add-one}
 use lib.Count.{leadingZeros, leading-top}
 use lib.Pow.{pow-pos, pow-mono}
 use lib.IntN.{ℤ, pos, negsuc}
 use borrow.Author.Tests.{lt-ltb, le-ltb, le-leb, lt-leb, ltb-true, leb-true, ltb-false, leb-false}
-use Rattle.bits.specs.Bits.{Bits, bitAt, toBits}
-use Rattle.bits.specs.Walk.{field, mark, demand, _⊕_, wrote, join, run}
-use Rattle.bits.specs.Codec.{Codec, got, f, absent, choose, _▷_, merged}
-use Rattle.bits.specs.Codes.{countZeros, unary, topBit, uvlc-out, uvlc-in, uvlc, su-out, su-in, su, leb-out, leb-in, tooLong, leb-step, leb128}
+use Rattle.bits.specs.Bits.{Bits, bitAt, toBits, fromBits}
+use Rattle.bits.specs.Walk.{field, _⊕_, wrote, join, run}
+use Rattle.bits.specs.Codec.{Codec, got, andThen, takeBits, f, absent, choose, _▷_, merged}
+use Rattle.bits.specs.Codes.{topBit, unary, uvlc, su-out, su-in, su, leb-out, leb-in, tooLong, leb-step, leb128}
 use Rattle.bits.proofs.Numbers.{length-toBits}
 use Rattle.bits.specs.Lawful.{Grade, strict, wants, Lawful, Least, shorter}
 use Rattle.bits.specs.declared.answer.Refusal.the-variants.{Unfit}
-use Rattle.bits.proofs.Laws.{wrote-bits, refused-wrote, stop-got, got-value, got-rest, then-inv, joined, join-inv, passed, passes, join-none, spells-coded, seq-law, choose-law, recode-law, merged-law}
-use Rattle.bits.proofs.Leaves.{f-law, single-law, f-fits, f-length, f-enc, absent-law}
+use Rattle.bits.proofs.Laws.{wrote-bits, refused-wrote, stop-got, got-value, got-rest, then-inv, joined, join-inv, glue, passed, join-none, spells-coded, seq-law, choose-law, recode-law, merged-law}
+use Rattle.bits.proofs.Leaves.{take-inv, f-law, single-law, f-fits, f-length, f-enc, absent-law}
 
-count-front : (m e i z : ℕ) (rest : Bits) → z ≤ m → countZeros m e i (replicate z false ++ true ∷ [] ++ rest) ≡ got z rest
-unfolding countZeros
-count-front m e i zero rest h = refl
-count-front zero e i (suc z) rest h = absurd (omega arith)
-count-front (suc m) e i (suc z) rest h = rw (count-front m e i z rest (omega arith))
+-- uvlc's zeros are those in front of a one, which stays
+zeros-front : (m e i z : ℕ) (rest : Bits) → z ≤ m → unary m e i (replicate z false ++ true ∷ rest) ≡ got z (true ∷ rest)
+unfolding unary
+zeros-front m e i zero rest h = refl
+zeros-front zero e i (suc z) rest h = absurd (omega arith)
+zeros-front (suc m) e i (suc z) rest h = rw (zeros-front m e i z rest (omega arith))
 
-count-inv : (m e i : ℕ) (bs : Bits) (z : ℕ) (rest : Bits) → countZeros m e i bs ≡ got z rest → (z ≤ m) × (replicate z false ++ true ∷ [] ++ rest ≡ bs)
-unfolding countZeros
-count-inv m e i [] z rest h = absurd (stop-got h)
-count-inv m e i (true ∷ bs) z rest h = rw (← (got-value h), ← (got-rest h)) (omega arith, refl)
-count-inv zero e i (false ∷ bs) z rest h = absurd (stop-got h)
-count-inv (suc m) e i (false ∷ bs) z rest h =
-    let u = then-inv (countZeros m e i bs) (λ z rest. got (suc z) rest) z rest h in
-    let v = count-inv m e i bs (u .0) (u .1) (u .2) in
-    step m bs (u .0) z (u .1) rest (u .3) (v .0) (v .1)
+pub zeros-inv : (m e i : ℕ) (bs : Bits) (z : ℕ) (rest : Bits) → unary m e i bs ≡ got z rest → (z ≤ m) × (replicate z false ++ rest ≡ bs) × (tail : Bits) × (true ∷ tail ≡ rest)
+unfolding unary
+zeros-inv m e i [] z rest h = absurd (stop-got h)
+zeros-inv m e i (true ∷ bs) z rest h = rw (← (got-value h)) (omega arith, sym (got-rest h), bs, got-rest h)
+zeros-inv zero e i (false ∷ bs) z rest h = absurd (stop-got h)
+zeros-inv (suc m) e i (false ∷ bs) z rest h =
+    let u = then-inv (unary m e i bs) (λ z rest. got (suc z) rest) z rest h in
+    let t = zeros-inv m e i bs (u .0) (u .1) (u .2) in
+    step (u .0) (u .1) (u .3) (t .0) (t .1) (t .2) (t .3)
   where
-    step : (m : ℕ) (bs : Bits) (y z : ℕ) (r rest : Bits) → got (suc y) r ≡ got z rest → y ≤ m → replicate y false ++ true ∷ [] ++ r ≡ bs → (z ≤ suc m) × (replicate z false ++ true ∷ [] ++ rest ≡ false ∷ bs)
-    step m bs y z r rest g l e = rw (← (got-value g), ← (got-rest g)) (omega arith, ap (λ (t : Bits). false ∷ t) e)
+    step : (y : ℕ) (r : Bits) → got (suc y) r ≡ got z rest → y ≤ m → replicate y false ++ r ≡ bs → (tail : Bits) → true ∷ tail ≡ r
+        → (z ≤ suc m) × (replicate z false ++ rest ≡ false ∷ bs) × (tail : Bits) × (true ∷ tail ≡ rest)
+    step y r g l a tail t = rw (← (got-value g), ← (got-rest g)) (omega arith, ap (λ (l : Bits). false ∷ l) a, tail, t)
 
 pub no-bits : (z : ℕ) → toBits z 0 ≡ replicate z false
 unfolding toBits bitAt
 no-bits zero = refl
 no-bits (suc z) = rw (zero-div (2 ^ z)) (ap (λ (bs : Bits). false ∷ bs) (no-bits z))
 
-zeros-one : (z : ℕ) → run (field z 0 0 0 ⊕ mark true) ≡ wrote (replicate z false ++ true ∷ [])
-unfolding run join
-zeros-one z = rw (lt-ltb 0 (2 ^ z) (pow-pos z), no-bits z)
+-- a number of z + 1 bits, and not fewer, begins with a one
+first-one : (z w : ℕ) → 2 ^ z ≤ w → w < 2 ^ suc z → toBits (suc z) w ≡ true ∷ toBits z w
+unfolding toBits bitAt
+first-one z w l u = rw (div-eq-of-lt-le {k = 1} (2 ^ z) {m = w} (omega arith) (omega arith))
 
-unary-reads : (m e i z : ℕ) (bs rest : Bits) → z ≤ m → replicate z false ++ true ∷ [] ≡ bs → countZeros m e i (bs ++ rest) ≡ got z rest
-unary-reads m e i z bs rest l h = rw (← h) (count-front m e i z rest l)
-
-unary-inv : (m e i z : ℕ) (bs : Bits) → run (demand (leb z m) (Unfit e i) ⊕ field z 0 0 0 ⊕ mark true) ≡ wrote bs → (z ≤ m) × (replicate z false ++ true ∷ [] ≡ bs)
-unfolding run
-unary-inv m e i z bs h =
-    let t = passed (leb z m) (Unfit e i) h in
-    (leb-true z m (t .0), wrote-bits (sym (zeros-one z) ∙ t .1))
-
-pub unary-law : {g : Grade} (m e i : ℕ) → Lawful g (unary m e i)
-unfolding unary run
-unary-law m e i = single-law _ _
-    (λ z bs rest h. let t = unary-inv m e i z bs h in unary-reads m e i z bs rest (t .0) (t .1))
-    (λ bs z rest h. let t = count-inv m e i bs z rest h in (replicate z false ++ true ∷ [], passes (Unfit e i) (le-leb z m (t .0)) (zeros-one z), t .1))
-
--- as many zeros as may be
-pub unary-fits : (m e i z : ℕ) (bs : Bits) → (unary m e i) .spells z bs → z ≤ m
-unfolding unary
-unary-fits m e i z bs s = unary-inv m e i z bs s .0
-
-top-le : (k w : ℕ) → 1 ≤ w → 2 ^ topBit k w ≤ w
-unfolding topBit
-top-le zero w h = h
-top-le (suc k) w h = go (leb (2 ^ suc k) w) refl (top-le k w h)
+pub one-first : (z e i : ℕ) (tail bs : Bits) (w : ℕ) (rest : Bits) → true ∷ tail ≡ bs → f (z + 1) e i .dec bs ≡ got w rest → 2 ^ z ≤ w
+unfolding f fromBits
+one-first z e i tail bs w rest o h =
+    let u = then-inv (takeBits (z + 1) bs) (λ xs rest. got (fromBits xs) rest) w rest h in
+    let t = take-inv (z + 1) bs (u .0) (u .1) (u .2) in
+    go (u .0) (u .1) (t .0) (t .1) (got-value (u .3))
   where
-    go : (b : Bool) → leb (2 ^ suc k) w ≡ b → 2 ^ topBit k w ≤ w → 2 ^ cond b (suc k) (topBit k w) ≤ w
-    go true e h = leb-true (2 ^ suc k) w e
-    go false e h = h
+    go : (xs r : Bits) → length xs ≡ z + 1 → xs ++ r ≡ bs → fromBits xs ≡ w → 2 ^ z ≤ w
+    go [] r l a q = absurd (omega arith)
+    go (b ∷ xs) r l a q =
+        let k : length xs ≡ z = omega arith in
+        let t : b ≡ true = cc in
+        omega (arith, rw (t, k) at q)
 
 top-at : (k z w : ℕ) → z ≤ k → 2 ^ z ≤ w → w < 2 ^ suc z → topBit k w ≡ z
 unfolding topBit
@@ -99,23 +88,58 @@ bit-length w some few =
     let t = leading-top 32 w some few in
     omega (arith, t .1, top-at 32 (t .0) w (omega (arith, t .1)) (t .2) (t .3))
 
-uvlc-back : (z x : ℕ) → z ≤ 31 → x < 2 ^ z → uvlc-out (2 ^ z + x - 1) ≡ (z, x)
-uvlc-back z x h l =
-    let p = pow-pos z in
-    let e : 2 ^ z + x - 1 + 1 ≡ 2 ^ z + x = omega arith in
-    let u : 2 ^ z + x < 2 ^ suc z = omega arith in
-    let t : topBit 32 (2 ^ z + x) ≡ z = top-at 32 z (2 ^ z + x) (omega arith) (omega arith) u in
-    let d : 2 ^ z + x - 2 ^ z ≡ x = omega arith in
-    rw (e, t, d)
+f-reads-own : (n e i v : ℕ) (rest : Bits) → v < 2 ^ n → f n e i .dec (toBits n v ++ rest) ≡ got v rest
+unfolding f
+f-reads-own n e i v rest h = f-law {g = strict} n e i .complete v (toBits n v) rest (f-enc n e i v h)
 
-uvlc-there : (v : ℕ) → 2 ^ topBit 32 (v + 1) + (v + 1 - 2 ^ topBit 32 (v + 1)) - 1 ≡ v
-uvlc-there v = let h = top-le 32 (v + 1) (omega arith) in omega arith
+-- Document 01's rule where v + 1 has z + 1 bits, and not fewer: z zeros, and v + 1 in z + 1 bits.
+module _ (e i z v : ℕ) (few : z ≤ 31) (lo : 2 ^ z ≤ v + 1) (hi : v + 1 < 2 ^ suc z) where
+  pub uvlc-writes : run (uvlc e i .enc v) ≡ wrote (replicate z false ++ toBits (suc z) (v + 1))
+  unfolding uvlc run join
+  uvlc-writes =
+      let p : 2 ^ suc z ≤ 2 ^ 32 = pow-mono {j = 32} (omega arith) in
+      let t : topBit 32 (v + 1) ≡ z = top-at 32 z (v + 1) (omega arith) lo hi in
+      let k : suc z - 1 ≡ z = omega arith in
+      rw (t, add-one z, k, lt-ltb v (2 ^ 32 - 1) (omega arith), lt-ltb 0 (2 ^ z) (pow-pos z), no-bits z, lt-ltb (v + 1) (2 ^ suc z) hi)
+
+  pub uvlc-reads : (rest : Bits) → uvlc e i .dec ((replicate z false ++ toBits (suc z) (v + 1)) ++ rest) ≡ got v rest
+  unfolding uvlc
+  uvlc-reads rest =
+      let b = first-one z (v + 1) lo hi in
+      let n : v + 1 - 1 ≡ v = omega arith in
+      rw (append-assoc, b, zeros-front 31 e i z (toBits z (v + 1) ++ rest) few, add-one z, rw b at (f-reads-own (suc z) e i (v + 1) rest hi), n)
+
+uvlc-complete : (e i v : ℕ) (bs rest : Bits) → run (uvlc e i .enc v) ≡ wrote bs → uvlc e i .dec (bs ++ rest) ≡ got v rest
+unfolding uvlc run
+uvlc-complete e i v bs rest h =
+    let t = ltb-true v (2 ^ 32 - 1) (passed (ltb v (2 ^ 32 - 1)) (Unfit e i) h .0) in
+    let j = leading-top 32 (v + 1) (omega arith) (omega arith) in
+    let few : j .0 ≤ 31 = omega (arith, j .1) in
+    rw (wrote-bits (sym h ∙ uvlc-writes e i (j .0) v few (j .2) (j .3))) (uvlc-reads e i (j .0) v few (j .2) (j .3) rest)
+
+uvlc-sound : (e i : ℕ) (bs : Bits) (v : ℕ) (rest : Bits) → uvlc e i .dec bs ≡ got v rest → (front : Bits) × (run (uvlc e i .enc v) ≡ wrote front) × (front ++ rest ≡ bs)
+unfolding uvlc f
+uvlc-sound e i bs v rest h =
+    let u = then-inv (unary 31 e i bs) (λ z rest. andThen (f (z + 1) e i .dec rest) (λ w end. got (w - 1) end)) v rest h in
+    let x = then-inv (f (u .0 + 1) e i .dec (u .1)) (λ w end. got (w - 1) end) v rest (u .3) in
+    let t = zeros-inv 31 e i bs (u .0) (u .1) (u .2) in
+    let s = f-law {g = strict} (u .0 + 1) e i .sound (u .1) (x .0) (x .1) (x .2) in
+    let lo = one-first (u .0) e i (t .2) (u .1) (x .0) (x .1) (t .3) (x .2) in
+    go (u .0) (x .0) (s .0) (t .0) lo (s .1) (got-value (x .3)) (t .1) (s .2) (got-rest (x .3))
+  where
+    go : (z w : ℕ) (y : Bits) {r end : Bits} → z ≤ 31 → 2 ^ z ≤ w → f (z + 1) e i .spells w y → w - 1 ≡ v → replicate z false ++ r ≡ bs → y ++ end ≡ r → end ≡ rest
+        → (front : Bits) × (run (uvlc e i .enc v) ≡ wrote front) × (front ++ rest ≡ bs)
+    go z w y few lo s less a b c =
+        let p = pow-pos z in
+        let q : w ≡ v + 1 = omega arith in
+        let fits = f-fits (z + 1) e i w y s in
+        let hi : w < 2 ^ suc z = rw (add-one z) at fits in
+        let n : toBits (suc z) (v + 1) ≡ y = rw (add-one z, q) at (wrote-bits (sym (f-enc (z + 1) e i w fits) ∙ s)) in
+        (replicate z false ++ y, rw n at (uvlc-writes e i z v few (rw q at lo) (rw q at hi)), glue (replicate z false) y a b c)
 
 pub uvlc-law : {g : Grade} (e i : ℕ) → Lawful g (uvlc e i)
-unfolding uvlc _▷_ unary f
-uvlc-law e i = recode-law uvlc-out uvlc-in (seq-law (unary-law 31 e i) (λ z. f-law z e i))
-    (λ p bs s. uvlc-back (p .0) (p .1) (unary-fits 31 e i (p .0) (s .0) (s .2)) (f-fits (p .0) e i (p .1) (s .1) (s .3)))
-    (λ v bs s. uvlc-there v)
+unfolding uvlc
+uvlc-law e i = single-law _ _ (uvlc-complete e i) (uvlc-sound e i)
 
 su-back : (n v : ℕ) → v < 2 ^ n → su-out n (su-in n v) ≡ v
 su-back n v h = go (ltb (v * 2) (2 ^ n)) refl
@@ -302,36 +326,6 @@ leb-total (suc k) n h p = go (ltb n 128) refl (ltb 0 k) refl (leb-total k (n / 1
         let o : k ≡ 0 = omega arith in
         let b : n < 128 ^ suc 0 = rw o at h in
         absurd (omega arith)
-
--- How a loop finds the highest one.
-module _ (k w p : ℕ) where
-  pub top-here : topBit k w ≡ topBit 32 w → 0 < k → p ≡ 2 ^ k → p ≤ w → k ≡ topBit 32 w
-  unfolding topBit
-  top-here e l q h = sym (go k l (rw q at h)) ∙ e
-    where
-      go : (k : ℕ) → 0 < k → 2 ^ k ≤ w → topBit k w ≡ k
-      go zero l h = absurd (omega arith)
-      go (suc k) l h = rw (le-leb (2 ^ suc k) w h)
-
-  pub top-below : topBit k w ≡ topBit 32 w → 0 < k → p ≡ 2 ^ k → w < p → topBit (k - 1) w ≡ topBit 32 w
-  unfolding topBit
-  top-below e l q h = sym (go k l (rw q at h)) ∙ e
-    where
-      go : (k : ℕ) → 0 < k → w < 2 ^ k → topBit k w ≡ topBit (k - 1) w
-      go zero l h = absurd (omega arith)
-      go (suc k) l h = let j : k ≡ suc k - 1 = omega arith in rw (lt-leb (2 ^ suc k) w h) (ap (λ (j : ℕ). topBit j w) j)
-
-pub top-none : (k w : ℕ) → topBit k w ≡ topBit 32 w → k ≤ 0 → 0 ≡ topBit 32 w
-unfolding topBit
-top-none zero w e h = e
-top-none (suc k) w e h = absurd (omega arith)
-
--- What uvlc's code asks: with z the place of the highest one of v + 1.
-pub top-takes : (v z p : ℕ) → v < 2 ^ 32 → z ≡ topBit 32 (v + 1) → p ≡ 2 ^ z → (p ≤ v + 1) × (v + 1 - p < 2 ^ 32)
-top-takes v z p l e q =
-    let h : p ≤ v + 1 = rw (q, e) (top-le 32 (v + 1) (omega arith)) in
-    let g : 1 ≤ p = rw q (pow-pos z) in
-    (h, omega arith)
 
 -- The bytes of leb128, as its loop writes them.
 pub leb-more : (k n m : ℕ) → 128 ≤ n → n < 128 ^ k → n / 128 ≡ m → (0 < k - 1) × (m < 128 ^ (k - 1)) × (run (field 8 (128 + n % 128) 0 0 ⊕ leb128 (k - 1) .enc m) ≡ run (leb128 k .enc n))

@@ -13,4 +13,3 @@ pub mod Signs
 pub mod Reading
 pub mod Bounds
 pub mod RoundTrip
-pub mod Uvlc

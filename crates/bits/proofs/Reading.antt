@@ -44,7 +44,7 @@ module _ {G A : Type 0} {v : Form G A} {d : Bits → Got A} {xs : List ℕ} {c :
       let u : y ≡ z = h ∙ ap why w in
       rw u (rw w at r)
 
-pub fuse : {A B C : Type 0} (x : Got A) (h : A → B) (make : B → C)
+fuse : {A B C : Type 0} (x : Got A) (h : A → B) (make : B → C)
     → andThen (andThen x (λ a rest. got (h a) rest)) (λ b rest. got (make b) rest) ≡ andThen x (λ a rest. got (make (h a)) rest)
 fuse (got a rest) h make = refl
 fuse (stop r) h make = refl
@@ -64,7 +64,7 @@ module _ {A C : Type 0} {t : Codec A} (make : A → C) {xs : List ℕ} {p : Curs
   read-no r = reading (record { finds = rw (r .finds) refl; moves = nil })
 
 -- places that came from one another
-pub further : {C : Type 0} (xs : List ℕ) (p q : Cursor) (r : Result C) → max (q .at) (end xs) ≡ max (p .at) (end xs) → moved xs q r → moved xs p r
+further : {C : Type 0} (xs : List ℕ) (p q : Cursor) (r : Result C) → max (q .at) (end xs) ≡ max (p .at) (end xs) → moved xs q r → moved xs p r
 unfolding moved
 further xs p q (value a d) h m = m ∙ h
 further xs p q (refused y) h m = nil

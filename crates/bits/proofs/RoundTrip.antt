@@ -9,8 +9,8 @@ use lib.ListN.{length, take, length-append}
 use lib.Seq.{take-at}
 use Rattle.bits.specs.Bits.{Bits, from, end, limit}
 use Rattle.bits.specs.Walk.{field, mark, Out, End, done, refused, wrote, run, forward, ends, stepOf, Walked, walked}
-use Rattle.bits.specs.Codec.{Codec, f, flag, recode, _▷_}
-use Rattle.bits.specs.Codes.{unary, uvlc, su, leb128}
+use Rattle.bits.specs.Codec.{Codec, f, flag, recode}
+use Rattle.bits.specs.Codes.{uvlc, su, leb128}
 use Rattle.bits.specs.Lawful.{Grade, strict, Lawful, Least}
 use Rattle.bits.specs.Answers.{value, Form, made, found, moved, Reads, Said, said}
 use Rattle.bits.specs.Answers as form
@@ -25,7 +25,6 @@ use Rattle.bits.specs.declared.answer.GotSize.{GotSize}
 use Rattle.bits.specs.declared.answer.GotSize.the-variants as Z
 use Rattle.bits.specs.declared.answer.Step.{Step}
 use Rattle.bits.specs.declared.answer.Step.the-variants.{Next}
-use Rattle.bits.proofs.Laws.{joined}
 use Rattle.bits.proofs.Leaves.{f-law, flag-law}
 use Rattle.bits.proofs.CodeLaws.{uvlc-law, su-law, leb-law, leb-id}
 use Rattle.bits.proofs.Places.{end-is, end-put, put-front, put-behind, put-same, length-from}
@@ -105,10 +104,6 @@ su-one : (n e i : ℕ) (z : ℤ) (bs : Bits) → su n e i .spells z bs → run (
 unfolding su recode f
 su-one n e i z bs s = s
 
-uvlc-one : (e i v : ℕ) (bs : Bits) → uvlc e i .spells v bs → run (uvlc e i .enc v) ≡ wrote bs
-unfolding uvlc recode _▷_ unary f run
-uvlc-one e i v bs s = joined (s .2) (s .3) ∙ ap wrote (s .4)
-
 -- The four codes, in the words of their functions' contracts: a writer that answered `Next d` with d in the bytes, and the reader at the place where it began.
 module _ {c d : Cursor} {xs ys : List ℕ} (room : d .at ≤ end xs) (near : d .at < limit) where
   pub f-reads-back : (n e i v : ℕ) {h : GotNumber} → n ≤ 32 → Walked (field n v e i) c xs (Next d) ys → Said form.number (f (min n 32) 0 0 .dec) ys c h → h ≡ N.Value v d
@@ -124,7 +119,7 @@ module _ {c d : Cursor} {xs ys : List ℕ} (room : d .at ≤ end xs) (near : d .
   su-reads-back n e i z w s = reads-back (su (min n 32) e i) (su-law {g = strict} (min n 32) e i) z w room near s
 
   pub uvlc-reads-back : (e i v : ℕ) {h : GotNumber} → Walked (uvlc e i .enc v) c xs (Next d) ys → Said form.number (uvlc e i .dec) ys c h → h ≡ N.Value v d
-  unfolding uvlc recode
+  unfolding uvlc
   uvlc-reads-back e i v w s = reads-back (uvlc e i) (uvlc-law {g = strict} e i) v w room near s
 
   pub leb128-reads-back : (n : ℕ) {h : GotSize} → Walked (leb128 8 .enc n) c xs (Next d) ys → Said form.size (leb128 8 .dec) ys c h → h ≡ Z.Value n d
@@ -146,7 +141,8 @@ module _ {c d : Cursor} {xs ys : List ℕ} {s : Step} (near : d .at < limit) whe
   su-writes-back n e i z r q w = writes-back (su (min n 32) e i) (su-law {g = strict} (min n 32) e i) (su-one (min n 32) e i) r q near w
 
   pub uvlc-writes-back : (e i v : ℕ) {h : GotNumber} → Said form.number (uvlc e i .dec) xs c h → h ≡ N.Value v d → Walked (uvlc e i .enc v) c xs s ys → (s ≡ Next d) × (ys ≡ xs)
-  uvlc-writes-back e i v r q w = writes-back (uvlc e i) (uvlc-law {g = strict} e i) (uvlc-one e i) r q near w
+  unfolding uvlc
+  uvlc-writes-back e i v r q w = writes-back (uvlc e i) (uvlc-law {g = strict} e i) (λ v bs h. h) r q near w
 
 -- A size may be spelled longer than we write it: the bits that its writer stores are those that were read, or fewer by a byte at least.
 pub leb128-writes-least : (n : ℕ) {c d : Cursor} {xs : List ℕ} {h : GotSize}

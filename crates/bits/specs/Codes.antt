@@ -5,51 +5,29 @@ use Prim.Native.Nat.{ℕ, zero, suc, _+_, _-_, _*_, _^_, _/_, _%_}
 use lib.Dec.{ltb, leb}
 use lib.IntN.{ℤ, pos, negsuc}
 use Rattle.bits.specs.Bits.{Bits}
-use Rattle.bits.specs.Walk.{field, mark, demand, refuse, _⊕_}
+use Rattle.bits.specs.Walk.{field, demand, refuse, _⊕_}
 use Rattle.bits.specs.Codec.{Codec, Got, got, stop, andThen, single, f, absent, choose, _▷_, recode, merged}
 use Rattle.bits.specs.declared.answer.Refusal.the-variants.{Inconsistent, Unfit, Ends, Size}
-
--- z zeros and a one, at most m zeros: writing more is refusal 2, and reading zero m + 1 is refusal 1
-unfoldable pub countZeros : ℕ → ℕ → ℕ → Bits → Got ℕ
-countZeros m e i [] = stop Ends
-countZeros m e i (true ∷ bs) = got 0 bs
-countZeros zero e i (false ∷ bs) = stop (Inconsistent e i)
-countZeros (suc m) e i (false ∷ bs) = andThen (countZeros m e i bs) (λ z rest. got (suc z) rest)
-
-unfoldable pub unary : ℕ → ℕ → ℕ → Codec ℕ
-unary m e i = single (λ z. demand (leb z m) (Unfit e i) ⊕ field z 0 0 0 ⊕ mark true) (countZeros m e i)
 
 -- the place of the highest one of w, up to k
 unfoldable pub topBit : ℕ → ℕ → ℕ
 topBit zero w = zero
 topBit (suc k) w = cond (leb (2 ^ suc k) w) (suc k) (topBit k w)
 
--- uvlc: v + 1 is 2^z + x: z zeros, a one, x in z bits.
+-- the zeros before the next one, at most m: reading one more is refusal 1
+unfoldable pub unary : ℕ → ℕ → ℕ → Bits → Got ℕ
+unary m e i [] = stop Ends
+unary m e i (true ∷ bs) = got 0 (true ∷ bs)
+unary zero e i (false ∷ bs) = stop (Inconsistent e i)
+unary (suc m) e i (false ∷ bs) = andThen (unary m e i bs) (λ z rest. got (suc z) rest)
+
+-- uvlc: with L the bit length of v + 1, one more than the place of its highest one, L - 1 zeros and then v + 1 in L bits.
 -- Difference (docs/DIFFERENCES.md, rows 6 and 8): the standard codes 2^32 - 1 as 32 zeros and a one, and reads 32 zeros as 2^32 - 1. Document 01
 -- refuses both; the crate writes 32 zeros and no one.
-abbrev pub uvlc-out : ℕ → ℕ × ℕ
-uvlc-out v = (topBit 32 (v + 1), v + 1 - 2 ^ topBit 32 (v + 1))
-
-abbrev pub uvlc-in : ℕ × ℕ → ℕ
-uvlc-in p = 2 ^ p .0 + p .1 - 1
-
 unfoldable pub uvlc : ℕ → ℕ → Codec ℕ
-uvlc e i = recode uvlc-out uvlc-in (unary 31 e i ▷ λ z. f z e i)
-
--- uvlc in document 01's words; `uvlc-same` in proofs/Uvlc.antt says that it is uvlc.
-
--- the zeros before the next one, at most m: reading one more is refusal 1
-unfoldable pub zerosBefore : ℕ → ℕ → ℕ → Bits → Got ℕ
-zerosBefore m e i [] = stop Ends
-zerosBefore m e i (true ∷ bs) = got 0 (true ∷ bs)
-zerosBefore zero e i (false ∷ bs) = stop (Inconsistent e i)
-zerosBefore (suc m) e i (false ∷ bs) = andThen (zerosBefore m e i bs) (λ z rest. got (suc z) rest)
-
--- with L the bit length of v + 1, one more than the place of its highest one, L - 1 zeros and then v + 1 in L bits
-unfoldable pub uvlc-by-length : ℕ → ℕ → Codec ℕ
-uvlc-by-length e i = single
+uvlc e i = single
     (λ v. let L = topBit 32 (v + 1) + 1 in demand (ltb v (2 ^ 32 - 1)) (Unfit e i) ⊕ field (L - 1) 0 0 0 ⊕ field L (v + 1) e i)
-    (λ bs. andThen (zerosBefore 31 e i bs) (λ z rest. andThen (f (z + 1) e i .dec rest) (λ w end. got (w - 1) end)))
+    (λ bs. andThen (unary 31 e i bs) (λ z rest. andThen (f (z + 1) e i .dec rest) (λ w end. got (w - 1) end)))
 
 -- su(n): two's complement in n bits; a number out of range goes to 2^n, which no n bits hold. (`pos m` is m, and `negsuc m` is -(m + 1).)
 abbrev pub su-out : ℕ → ℤ → ℕ

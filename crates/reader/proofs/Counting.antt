@@ -2,16 +2,16 @@
 use mathlib.Core.Path.{_≡_, refl, sym, ap, _∙_}
 use mathlib.Core.List.{List, [], _∷_}
 use mathlib.Core.Bool.{Bool, true, false}
-use Prim.Native.Nat.{ℕ, suc, _+_, _-_, _*_, _%_, _^_, _<_, _≤_}
+use Prim.Native.Nat.{ℕ, suc, _+_, _-_, _*_, _%_, _^_, _<_, _≤_, max}
 use native.Mathlib.Nat.{zero-add, one-mul, mul-le-mul-right, mul-add, mul-assoc, mul-comm, add-assoc}
 use native.Mathlib.Omega.{arith}
 use lib.Dec.{ltb}
 use lib.Pow.{pow-add, pow-mono}
 use borrow.Author.Tests.{lt-ltb, le-ltb}
-use Rattle.bits.specs.Bits.{Bits, from}
+use Rattle.bits.specs.Bits.{Bits, from, end}
 use Rattle.bits.specs.Codec.{Got, got, stop, andThen, f, flag, absent, choose, _▷_, nil}
-use Rattle.bits.specs.Codes.{countZeros, unary, leb128, leb-step, leb-in, leb-out, tooLong}
-use Rattle.bits.specs.Answers.{Result, value, refused, why, found, moved, Reads, Said, said, Reading, reading}
+use Rattle.bits.specs.Codes.{unary, leb128, leb-step, leb-in, leb-out, tooLong}
+use Rattle.bits.specs.Answers.{refused, why, found, moved, Said, said, reading}
 use Rattle.bits.specs.Answers as form
 use Rattle.bits.specs.declared.answer.Cursor.{Cursor}
 use Rattle.bits.specs.declared.answer.Refusal.{Refusal}
@@ -23,7 +23,7 @@ use Rattle.bits.specs.declared.answer.GotFlag.the-variants as F
 use Rattle.bits.specs.declared.answer.GotSize.the-variants as Z
 use Rattle.bits.proofs.Laws.{stop-got, got-value, got-rest}
 use Rattle.bits.proofs.Bounds.{f-small}
-use Rattle.bits.proofs.Reading.{is, is-not, fuse, further, read-on, read-halt, yes, no, nothing, one-of, Left, left-all, left-remade}
+use Rattle.bits.proofs.Reading.{is, is-not, read-on, read-halt, yes, no, nothing, one-of, Left, left-all, left-remade}
 
 -- uvlc's zeros
 
@@ -32,60 +32,61 @@ unfolding flag
 flag-inv [] b rest e = absurd (stop-got e)
 flag-inv (x ∷ bs) b rest e = rw (got-value e, got-rest e)
 
-flag-stop : (m e i : ℕ) {B : Type 0} (make : ℕ → B) (bs : Bits) (y : Refusal) → flag .dec bs ≡ stop y → andThen (unary m e i .dec bs) (λ z rest. got (make z) rest) ≡ stop y
-unfolding flag unary countZeros
-flag-stop m e i make [] y h = ap (λ (g : Got Bool). andThen g (λ _ r. got (make 0) r)) h
-flag-stop m e i make (b ∷ bs) y h = absurd (stop-got (sym h))
+-- what was found, with k zeros before it
+abbrev after : ℕ → Got ℕ → Got ℕ
+after k x = andThen x (λ z rest. got (k + z) rest)
 
--- a bit of the run, and what it makes of the reading
-module _ (m e i : ℕ) {B : Type 0} (make : ℕ → B) {xs : List ℕ} {p : Cursor} where
-  zero-stop : {y : Refusal} → Reads (flag .dec) xs p (refused y) → Reading make (unary m e i) xs p (refused y)
-  unfolding found moved
-  zero-stop r = reading (record { finds = flag-stop m e i make _ _ (r .finds); moves = nil })
+after-none : (x : Got ℕ) → x ≡ after 0 x
+after-none (got z rest) = ap (λ (n : ℕ). got n rest) (omega arith)
+after-none (stop r) = refl
 
-  zero-end : {q : Cursor} → Reads (flag .dec) xs p (value true q) → Reading make (unary m e i) xs p (value (make 0) q)
-  unfolding unary countZeros found moved
-  zero-end r = reading (record { finds = rw (flag-inv _ _ _ (r .finds)) refl; moves = r .moves })
+after-more : (k : ℕ) (x : Got ℕ) → after k (andThen x (λ z rest. got (suc z) rest)) ≡ after (k + 1) x
+after-more k (got z rest) = ap (λ (n : ℕ). got n rest) (omega arith)
+after-more k (stop r) = refl
 
-  zero-on : {q : Cursor} {r : Result B} → Reads (flag .dec) xs p (value false q) → Reading (λ z. make (suc z)) (unary m e i) xs q r → Reading make (unary (suc m) e i) xs p r
-  unfolding unary countZeros found moved
-  zero-on {q} {r} s (reading g) =
-      reading (record { finds = rw (flag-inv _ _ _ (s .finds)) (fuse (countZeros m e i (from xs (q .at))) suc make ∙ g .finds); moves = further xs p q r (s .moves) (g .moves) })
-
-zero-full : (e i : ℕ) {B : Type 0} (make : ℕ → B) {xs : List ℕ} {p q : Cursor} → Reads (flag .dec) xs p (value false q) → Reading make (unary 0 e i) xs p (refused (Inconsistent e i))
-unfolding unary countZeros found moved
-zero-full e i make r = reading (record { finds = rw (flag-inv _ _ _ (r .finds)) refl; moves = nil })
+flag-stop : (m e i k : ℕ) (bs : Bits) (y : Refusal) → flag .dec bs ≡ stop y → after k (unary m e i bs) ≡ stop y
+unfolding flag unary
+flag-stop m e i k [] y h = ap (λ (g : Got Bool). andThen g (λ _ r. got k r)) h
+flag-stop m e i k (b ∷ bs) y h = absurd (stop-got (sym h))
 
 -- k zeros have been counted, and 31 - k more may come
 pub record Counted (e i : ℕ) (xs : List ℕ) (c : Cursor) (k : ℕ) (p : Cursor) : Type 0 where
-  pub left : Left (unary 31 e i .dec) xs c (unary (31 - k) e i) p (λ z. k + z)
+  pub left : unary 31 e i (from xs (c .at)) ≡ after k (unary (31 - k) e i (from xs (p .at)))
+  pub here : max (p .at) (end xs) ≡ max (c .at) (end xs)
   pub most : k ≤ 31
 
 pub counted-none : {e i : ℕ} {xs : List ℕ} {c : Cursor} → Counted e i xs c 0 c
-counted-none {e} {i} = record { left = left-remade (λ a. omega arith) (left-all (unary 31 e i)); most = omega arith }
+counted-none {e} {i} {xs} {c} = record { left = after-none (unary 31 e i (from xs (c .at))); here = refl; most = omega arith }
 
 module _ {e i : ℕ} {xs : List ℕ} {c p : Cursor} {k : ℕ} {g : GotFlag} (n : Counted e i xs c k p) (s : Said form.flag (flag .dec) xs p g) where
-  pub counted-stop : {y z : Refusal} → g ≡ F.Refused z → y ≡ why (form.flag .view g) → Said form.number (unary 31 e i .dec) xs c (N.Refused y)
-  counted-stop h w = said (n .left .rest _ (zero-stop (31 - k) e i (λ z. k + z) (is-not s h w)))
+  pub counted-stop : {y z : Refusal} → g ≡ F.Refused z → y ≡ why (form.flag .view g) → Said form.number (unary 31 e i) xs c (N.Refused y)
+  unfolding found moved
+  counted-stop h w = said (record { finds = n .left ∙ flag-stop (31 - k) e i k _ _ (is-not s h w .finds); moves = nil })
 
   module _ {b : Bool} {q : Cursor} (h : g ≡ F.Value b q) where
-    pub counted-end : b ≡ true → Said form.number (unary 31 e i .dec) xs c (N.Value k q)
+    bit : from xs (p .at) ≡ b ∷ from xs (q .at)
+    unfolding found
+    bit = flag-inv _ _ _ (is s h .finds)
+
+    pub counted-end : b ≡ true → Said form.number (unary 31 e i) xs c (N.Value k p)
+    unfolding unary found moved
     counted-end t =
         let z : k + 0 ≡ k = omega arith in
-        said (rw z at (n .left .rest _ (zero-end (31 - k) e i (λ z. k + z) (rw t at (is s h)))))
+        let o : true ∷ from xs (q .at) ≡ from xs (p .at) = sym (rw t at bit) in
+        said (record { finds = n .left ∙ rw (← o, z); moves = n .here })
 
-    pub counted-full : b ≡ false → k ≡ 31 → Said form.number (unary 31 e i .dec) xs c (N.Refused (Inconsistent e i))
-    counted-full t l =
-        let z : 31 - k ≡ 0 = omega arith in
-        said ((rw z at (n .left)) .rest _ (zero-full e i (λ z. k + z) (rw t at (is s h))))
+    pub counted-full : b ≡ false → k ≡ 31 → Said form.number (unary 31 e i) xs c (N.Refused (Inconsistent e i))
+    unfolding unary found moved
+    counted-full t l = said (record { finds = n .left ∙ rw (l, bit, t); moves = nil })
 
     pub counted-on : b ≡ false → (k ≡ 31 → ⊥) → Counted e i xs c (k + 1) q
+    unfolding unary found moved
     counted-on t l =
         let u : k < 31 = omega (arith, n .most, l) in
         let z : 31 - k ≡ suc (31 - (k + 1)) = omega arith in
-        let w : Left (unary 31 e i .dec) xs c (unary (suc (31 - (k + 1))) e i) p (λ z. k + z) = rw z at (n .left) in
         record {
-          left = left-remade (λ a. omega arith) (record { rest = λ r v. w .rest r (zero-on (31 - (k + 1)) e i (λ z. k + z) (rw t at (is s h)) v) });
+          left = n .left ∙ rw (z, bit, t) (after-more k (unary (31 - (k + 1)) e i (from xs (q .at))));
+          here = is s h .moves ∙ n .here;
           most = omega arith;
         }
 

@@ -10,9 +10,9 @@ use mir.Val.{SFits, toZ, ofZ, hbits}
 use mir.Facts.{toZ-pos}
 use borrow.Author.Tests.{lt-ltb, le-ltb}
 use lib.Pow.{pow-mono}
-use Rattle.bits.specs.Codec.{f}
-use Rattle.bits.specs.Codes.{unary, uvlc, uvlc-out, uvlc-in, su, su-in}
-use Rattle.bits.specs.Answers.{why, Said}
+use Rattle.bits.specs.Codec.{f, nil}
+use Rattle.bits.specs.Codes.{unary, uvlc, su, su-in}
+use Rattle.bits.specs.Answers.{why, found, moved, Said, said}
 use Rattle.bits.specs.Answers as form
 use Rattle.bits.specs.declared.answer.Cursor.{Cursor}
 use Rattle.bits.specs.declared.answer.Refusal.{Refusal}
@@ -20,8 +20,8 @@ use Rattle.bits.specs.declared.answer.GotNumber.{GotNumber}
 use Rattle.bits.specs.declared.answer.GotNumber.the-variants as N
 use Rattle.bits.specs.declared.answer.GotSigned.the-variants as I
 use Rattle.bits.proofs.Signs.{same, unflip-fits, unflip-is}
-use Rattle.bits.proofs.Bounds.{f-small, unary-small}
-use Rattle.bits.proofs.Reading.{is, is-not, start, recoded, read-on, read-halt, read-last, read-no}
+use Rattle.bits.proofs.Bounds.{f-small, unary-small, one-small}
+use Rattle.bits.proofs.Reading.{is, is-not, start, recoded, read-last, read-no}
 
 -- The numbers of su(n)'s codes, by the test that the code makes.
 module _ (n v p : ℕ) (q : p ≡ 2 ^ n) (l : n ≤ 32) where
@@ -42,46 +42,31 @@ module _ (n v p : ℕ) (q : p ≡ 2 ^ n) (l : n ≤ 32) where
       let e : p - (v + 1) ≡ 2 ^ n - suc v = omega arith in
       unflip-is w32 (p - (v + 1)) (value-high-fits h) ∙ rw (le-ltb (v * 2) (2 ^ n) (rw (← q) h), e)
 
--- what the code's sums need
-module _ (z v p : ℕ) (h : z ≤ 31) (l : v < 2 ^ z) (e : p ≡ 2 ^ z) where
-  pub uvlc-sum : p + v < 2 ^ 64
-  uvlc-sum = let m : 2 ^ z ≤ 2 ^ 31 = pow-mono {j = 31} h in omega arith
-
-  pub uvlc-cast : p + v - 1 < 2 ^ 32
-  uvlc-cast = let m : 2 ^ z ≤ 2 ^ 31 = pow-mono {j = 31} h in omega arith
-
--- a width that is not cut
-uncut : (n : ℕ) → n ≤ 32 → min n 32 ≡ n
-uncut n h = omega arith
-
--- z zeros and a one, and then z bits
-module _ (e i : ℕ) {xs : List ℕ} {c : Cursor} {g : GotNumber} (s : Said form.number (unary 31 e i .dec) xs c g) where
+-- zeros up to a one, and then the number that begins with it, in one bit more
+module _ (e i : ℕ) {xs : List ℕ} {c : Cursor} {g : GotNumber} (s : Said form.number (unary 31 e i) xs c g) where
   pub uvlc-halt : {y : Refusal} → g ≡ N.Refused y → Said form.number (uvlc e i .dec) xs c g
-  unfolding uvlc
-  uvlc-halt {y} h = rw h (start (uvlc e i) (recoded uvlc-out uvlc-in _ (read-halt (unary 31 e i) _ _ (is-not s h (rw h refl)))))
+  unfolding uvlc found moved
+  uvlc-halt {y} h = rw h (said (record { finds = rw (is-not {y = y} s h (rw h refl) .finds) refl; moves = nil }))
 
   module _ (z : ℕ) {p : Cursor} (h : g ≡ N.Value z p) where
-    few : z ≤ 31
-    few = unary-small 31 e i (is s h)
+    pub uvlc-few : z + 1 < 2 ^ 32
+    uvlc-few = omega (arith, unary-small 31 e i (is s h))
 
-    module _ {k : GotNumber} (t : Said form.number (f (min z 32) 0 0 .dec) xs p k) where
-      whole-width : Said form.number (f z 0 0 .dec) xs p k
-      whole-width = rw (uncut z (omega (arith, few))) at t
+    module _ {k : GotNumber} (t : Said form.number (f (min (z + 1) 32) 0 0 .dec) xs p k) where
+      whole-width : Said form.number (f (z + 1) 0 0 .dec) xs p k
+      whole-width = let m : min (z + 1) 32 ≡ z + 1 = omega (arith, unary-small 31 e i (is s h)) in rw m at t
 
       pub uvlc-halt-2 : {y : Refusal} → k ≡ N.Refused y → Said form.number (uvlc e i .dec) xs c k
-      unfolding uvlc f
-      uvlc-halt-2 {y} q = rw q (start (uvlc e i) (recoded uvlc-out uvlc-in _ (read-on (unary 31 e i) _ _ (is s h) (read-no _ (is-not whole-width q (rw q refl))))))
+      unfolding uvlc f found moved
+      uvlc-halt-2 {y} q = rw q (said (record { finds = rw (is s h .finds, is-not {y = y} whole-width q (rw q refl) .finds) refl; moves = nil }))
 
-      module _ {v : ℕ} {d : Cursor} (q : k ≡ N.Value v d) where
-        pub uvlc-few : z ≤ 31
-        uvlc-few = few
+      module _ (v : ℕ) {d : Cursor} (q : k ≡ N.Value v d) where
+        pub uvlc-some : 1 ≤ v
+        uvlc-some = one-small 31 e i (is s h) (is whole-width q)
 
-        pub uvlc-small : v < 2 ^ z
-        uvlc-small = f-small z 0 0 (is whole-width q)
-
-        pub uvlc-done : (r : ℕ) → r ≡ uvlc-in (z, v) → Said form.number (uvlc e i .dec) xs c (N.Value r d)
-        unfolding uvlc f
-        uvlc-done r u = start (uvlc e i) (recoded uvlc-out uvlc-in _ (read-on (unary 31 e i) _ _ (is s h) (read-last _ (is whole-width q) u)))
+        pub uvlc-done : Said form.number (uvlc e i .dec) xs c (N.Value (v - 1) d)
+        unfolding uvlc f found moved
+        uvlc-done = said (record { finds = rw (is s h .finds, is whole-width q .finds) refl; moves = is whole-width q .moves ∙ is s h .moves })
 
 -- n bits of two's complement
 module _ (n w : ℕ) (e : w ≡ min n 32) {xs : List ℕ} {c : Cursor} {g : GotNumber} (s : Said form.number (f (min w 32) 0 0 .dec) xs c g) where

@@ -126,9 +126,9 @@ pub fn flag(s: &[u8], c: Cursor) -> GotFlag
     GotFlag::Value(chunk(s[at / 8], 1, room) == 1, Cursor { at: at + 1 })
 }
 
-// The zeros before the next one, at most 31.
+// The zeros before the next one, at most 31; the one is not taken.
 fn unary(s: &[u8], c: Cursor, element: u8, index: u8) -> GotNumber
-    ensures { λ r. ⌜ Said form.number (unary 31 element index .dec) (now (s .entry)) c r ⌝ }
+    ensures { λ r. ⌜ Said form.number (unary 31 element index) (now (s .entry)) c r ⌝ }
 {
     let mut at = c;
     let mut zeros: u32 = 0;
@@ -138,7 +138,7 @@ fn unary(s: &[u8], c: Cursor, element: u8, index: u8) -> GotNumber
             return GotNumber::Refused(why_flag(g));
         };
         if one {
-            return GotNumber::Value(zeros, next);
+            return GotNumber::Value(zeros, at);
         }
         if zeros == 31 {
             return GotNumber::Refused(Refusal::Inconsistent(element, index));
@@ -148,19 +148,20 @@ fn unary(s: &[u8], c: Cursor, element: u8, index: u8) -> GotNumber
     }
 }
 
-// uvlc: z zeros, a one, and z bits more.
+// uvlc: L - 1 zeros, and then the value plus 1 in L bits.
 pub fn uvlc(s: &[u8], c: Cursor, element: u8, index: u8) -> GotNumber
     ensures { λ r. ⌜ Said form.number (uvlc element index .dec) (now (s .entry)) c r ⌝ }
 {
     let g = unary(s, c, element, index);
-    let GotNumber::Value(z, c) = g else {
+    let GotNumber::Value(zeros, c) = g else {
         return g;
     };
-    let g = f(s, c, z);
+    let length = zeros + 1;
+    let g = f(s, c, length);
     let GotNumber::Value(v, c) = g else {
         return g;
     };
-    GotNumber::Value(uvlc_value(z, v), c)
+    GotNumber::Value(v - 1, c)
 }
 
 // su(n); a width over 32, which is that of the value, counts as 32.

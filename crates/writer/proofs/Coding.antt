@@ -1,52 +1,44 @@
 -- How the code of uvlc and leb128 meets its walk.
 use mathlib.Core.Path.{_≡_, refl, sym}
-use mathlib.Core.List.{List, [], _∷_, _++_}
+use mathlib.Core.List.{List}
 use mathlib.Core.Bool.{true}
 use Prim.Native.Nat.{ℕ, _+_, _-_, _^_, _/_, _%_, _≤_, _<_}
 use native.Mathlib.Omega.{arith}
-use lib.Pow.{pow-lt, pow-pos}
-use borrow.Author.Tests.{lt-ltb, le-leb}
-use Rattle.bits.specs.Bits.{bitAt, toBits, put}
-use Rattle.bits.specs.Walk.{Walk, field, forward, join, run, Walked}
-use Rattle.bits.specs.Codec.{f, recode, _▷_}
-use Rattle.bits.specs.Codes.{topBit, unary, uvlc, leb128}
+use lib.Count.{leadingZeros}
+use lib.Pow.{pow-pos}
+use borrow.Author.Tests.{lt-ltb, le-ltb}
+use Rattle.bits.specs.Bits.{toBits, put}
+use Rattle.bits.specs.Walk.{Walk, field, forward, Walked}
+use Rattle.bits.specs.Codes.{topBit, uvlc, leb128}
 use Rattle.bits.specs.declared.answer.Cursor.{Cursor}
 use Rattle.bits.specs.declared.answer.Refusal.{Refusal}
+use Rattle.bits.specs.declared.answer.Refusal.the-variants.{Unfit}
 use Rattle.bits.specs.declared.answer.Step.{Step}
 use Rattle.bits.specs.declared.answer.Step.the-variants.{Next, Refused}
-use Rattle.bits.proofs.Words.{bits-split}
-use Rattle.bits.proofs.CodeLaws.{top-takes, leb-more, leb-last}
-use Rattle.bits.proofs.Walking.{field-done, hop, halt, Left, left-all, left-more, left-halt, as-run}
+use Rattle.bits.proofs.CodeLaws.{bit-length, leb-more, leb-last}
+use Rattle.bits.proofs.Walking.{field-done, hop, halt-here, held-then, broken, Left, left-all, left-more, left-halt, as-run}
 
--- z zeros and a one are the number 1 in z + 1 bits
-one-bits : (z : ℕ) → toBits (z + 1) 1 ≡ toBits z 0 ++ (true ∷ [])
-unfolding toBits bitAt
-one-bits z = bits-split z 1 1
+pub zeros-done : (n : ℕ) (c : Cursor) (xs : List ℕ) {ys : List ℕ} {k : ℕ} → ys ≡ put xs (c .at) (toBits n 0) → k ≡ forward (c .at) n → Walked (field n 0 0 0) c xs (Next (record { at = k })) ys
+zeros-done n c xs b a = field-done n 0 0 0 c xs _ _ true (sym (lt-ltb 0 (2 ^ n) (pow-pos n))) refl b a
 
-unary-run : (z e i : ℕ) → z ≤ 31 → run (field (z + 1) 1 0 0) ≡ run (unary 31 e i .enc z)
-unfolding run unary join
-unary-run z e i h = rw (lt-ltb 1 (2 ^ (z + 1)) (pow-lt {i = 0} (omega arith)), le-leb z 31 h, lt-ltb 0 (2 ^ z) (pow-pos z), one-bits z)
+-- uvlc: the bit length L of v + 1, by its leading zeros
+module _ (v : ℕ) (few : v < 2 ^ 32) (fits : v ≡ 4294967295 → ⊥) where
+  abbrev L : ℕ
+  L = 32 - leadingZeros 32 (v + 1)
 
-pub unary-done : (z e i : ℕ) (c : Cursor) (xs : List ℕ) {ys : List ℕ} {k : ℕ} → z ≤ 31 → ys ≡ put xs (c .at) (toBits (z + 1) 1) → k ≡ forward (c .at) (z + 1) → Walked (unary 31 e i .enc z) c xs (Next (record { at = k })) ys
-unary-done z e i c xs h b a = as-run (unary-run z e i h) (field-done (z + 1) 1 0 0 c xs _ _ true (sym (lt-ltb 1 (2 ^ (z + 1)) (pow-lt {i = 0} (omega arith)))) refl b a)
+  length-is : L ≡ topBit 32 (v + 1) + 1
+  length-is = bit-length (v + 1) (omega arith) (omega arith)
 
--- uvlc: z is the place of the highest one of v + 1, and p its power
-module _ (v z : ℕ) (q : z ≡ topBit 32 (v + 1)) where
-  module _ (p : ℕ) (g : p ≡ 2 ^ z) (h : v < 2 ^ 32) where
-    pub uvlc-over : p ≤ v + 1
-    uvlc-over = top-takes v z p h q g .0
+  pub length-some : 1 ≤ L
+  length-some = omega (arith, length-is)
 
-    pub uvlc-rest : v + 1 - p < 2 ^ 32
-    uvlc-rest = top-takes v z p h q g .1
+  pub uvlc-done : (e i : ℕ) {c d : Cursor} {xs ys zs : List ℕ} {s : Step} → Walked (field (L - 1) 0 0 0) c xs (Next d) ys → Walked (field L (v + 1) e i) d ys s zs → Walked (uvlc e i .enc v) c xs s zs
+  unfolding uvlc
+  uvlc-done e i w u = held-then (lt-ltb v (2 ^ 32 - 1) (omega arith)) (rw (← length-is) (hop w refl u))
 
-  module _ (e i : ℕ) {c : Cursor} {xs ys : List ℕ} {s : Step} (w : Walked (unary 31 e i .enc z) c xs s ys) where
-    pub uvlc-on : (p : ℕ) {d : Cursor} {zs : List ℕ} {t : Step} → p ≡ 2 ^ z → s ≡ Next d → Walked (field z (v + 1 - p) e i) d ys t zs → Walked (uvlc e i .enc v) c xs t zs
-    unfolding uvlc recode _▷_ unary f
-    uvlc-on p g h u = rw (← q, ← g) (hop w h u)
-
-    pub uvlc-halt : {r : Refusal} → s ≡ Refused r → Walked (uvlc e i .enc v) c xs s ys
-    unfolding uvlc recode _▷_ unary f
-    uvlc-halt h = rw (← q) (halt w h)
+pub uvlc-unfit : (v e i : ℕ) {c : Cursor} {xs : List ℕ} → v ≡ 4294967295 → Walked (uvlc e i .enc v) c xs (Refused (Unfit e i)) xs
+unfolding uvlc
+uvlc-unfit v e i h = halt-here (broken (le-ltb v (2 ^ 32 - 1) (omega arith)))
 
 -- leb128: of the walk T, the leb128 of n is left, in some bytes that it fits
 pub record Goes (T : Walk) (c : Cursor) (xs : List ℕ) (n : ℕ) (d : Cursor) (ys : List ℕ) : Type 0 where

@@ -1,5 +1,5 @@
 // The bit writer: the codes of 4.10 written, and checks. Each step answers the next place or the refusal.
-mod number; // number.rt: the highest one of a number, and signs
+mod number; // number.rt: high bits, and signs
 pub mod store; // store.rt: bits stored in bytes
 
 use crate::number::*;
@@ -10,9 +10,10 @@ ghost use mathlib.Core.Path.{_≡_};
 ghost use lib.Dec.{ltb};
 ghost use Prim.Native.Nat.{min, _^_};
 ghost use Rattle.bits.specs.declared.answer.Refusal.the-variants.{Inconsistent};
+ghost use Rattle.bits.specs.declared.answer.Step.the-variants.{Next};
 ghost use Rattle.bits.specs.Walk.{Walked, field, mark, demand, forward};
 ghost use Rattle.bits.specs.Codec.{sameFlag, inferredFlag};
-ghost use Rattle.bits.specs.Codes.{unary, uvlc, su, su-out, leb128};
+ghost use Rattle.bits.specs.Codes.{uvlc, su, su-out, leb128};
 
 // The place `width` bits further on.
 fn forward(at: usize, width: u32) -> usize
@@ -86,31 +87,27 @@ pub fn inferred_flag(
     demand(out, c, same_flag(value, inferred), element, index)
 }
 
-// z zeros and a one.
-fn unary(out: &mut [u8], c: Cursor, z: u32, element: u8, index: u8) -> Step
-    ensures { λ r. ⌜ Walked (unary 31 element index .enc z) c (now (out .entry)) r (now (out .exit)) ⌝ }
+// So many zeros, which always fit; the place behind them.
+fn zeros(out: &mut [u8], c: Cursor, width: u32) -> Cursor
+    ensures { λ r. ⌜ Walked (field width 0 0 0) c (now (out .entry)) (Next r) (now (out .exit)) ⌝ }
 {
-    if z <= 31 {
-        let at = c.at;
-        let width = z + 1;
-        put(out, at, width, 1);
-        return Step::Next(Cursor {
-            at: forward(at, width),
-        });
+    let at = c.at;
+    put(out, at, width, 0);
+    Cursor {
+        at: forward(at, width),
     }
-    Step::Refused(Refusal::Unfit(element, index))
 }
 
+// uvlc: with L the bit length of value + 1, L - 1 zeros and then value + 1 in L bits.
 pub fn uvlc(out: &mut [u8], c: Cursor, value: u32, element: u8, index: u8) -> Step
     ensures { λ r. ⌜ Walked (uvlc element index .enc value) c (now (out .entry)) r (now (out .exit)) ⌝ }
 {
-    let w = value as u64 + 1;
-    let z = top_bit(w);
-    let s = unary(out, c, z, element, index);
-    let Step::Next(c) = s else {
-        return s;
-    };
-    f(out, c, z, (w - pow2(z)) as u32, element, index)
+    if value == u32::MAX {
+        return Step::Refused(Refusal::Unfit(element, index));
+    }
+    let length = 32 - u32::leading_zeros(value + 1);
+    let c = zeros(out, c, length - 1);
+    f(out, c, length, value + 1, element, index)
 }
 
 // The shortest leb128 of a value: at most five bytes, and never refused.

@@ -1,9 +1,9 @@
-// The highest one of a number, and signs: the arithmetic of what is written.
+// High bits and signs: the arithmetic of what is written.
 use bits::number::pow2;
 ghost use mathlib.Core.Path.{_≡_};
 ghost use lib.Signed.{mag};
 ghost use Prim.Native.Nat.{_≤_, _/_, _^_};
-ghost use Rattle.bits.specs.Codes.{topBit, su-out};
+ghost use Rattle.bits.specs.Codes.{su-out};
 
 // v without so many of its low bits, 0 where there are no others.
 pub fn above(v: u32, low: u32) -> u64
@@ -11,21 +11,6 @@ pub fn above(v: u32, low: u32) -> u64
 {
     let w = v as u64;
     if low < 64 { w >> low } else { 0 }
-}
-
-// The place of the highest one of w.
-pub fn top_bit(w: u64) -> u32
-    ensures { λ r. ⌜ r ≡ topBit 32 w ⌝ }
-    ensures { λ r. ⌜ r ≤ 32 ⌝ }
-{
-    let mut place: u32 = 32;
-    while 0 < place {
-        if pow2(place) <= w {
-            return place;
-        }
-        place -= 1;
-    }
-    0
 }
 
 // a for a number a, and m for -(m + 1): how far it is from the change of sign.

@@ -1,5 +1,6 @@
 use borrow.Author.Needs.{needs}
-use Rattle.writer.proofs.Coding.{uvlc-over, uvlc-rest, uvlc-on, uvlc-halt}
+use lib.Count.{leading-le}
+use Rattle.writer.proofs.Coding.{uvlc-unfit, length-some, uvlc-done}
 use Rattle.writer.proofs.uvlc.Statement.{statement}
 use Rattle.writer.proofs.uvlc.Tie as tie
 
@@ -7,6 +8,6 @@ pub uvlc-spec : {M : Type 1} → statement M
 uvlc-spec =
     tie.close
     (tie.spec
-    (λ c. search needs) (λ c κs. search needs) (λ c κs. search needs) (λ c. search needs) (λ c. search needs) (λ c. search needs) (λ c. search uvlc-halt)
-    (λ c κs. search needs) (λ c. search uvlc-over) (λ c. record { fits = search uvlc-rest })
-    (λ c κs. search needs) (λ c. search needs) (λ c. search uvlc-on))
+    (λ c. search uvlc-unfit)
+    (λ c. search needs) (λ c. leading-le 32 _) (λ c. search length-some) (λ c κs. search needs)
+    (λ c. search needs) (λ c κs. search needs) (λ c. search needs) (λ c. search uvlc-done))
