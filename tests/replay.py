@@ -42,13 +42,13 @@ def packed(bits, size=420):
     return zeros("".join("%02X" % int(bits[i : i + 8], 2) for i in range(0, len(bits), 8)), size)
 
 
-def obu(payload):
+def obu(payload, size=420):
     """A sequence header OBU with a size field: its bits, a one bit, zeros to a byte end."""
     payload = payload.replace(" ", "") + "1"
     payload += "0" * (-len(payload) % 8)
-    size = len(payload) // 8
-    data = packed("00001010" + format(size, "08b") + payload)
-    return "0 %d %s" % (size + 2, data)
+    count = len(payload) // 8
+    data = packed("00001010" + format(count, "08b") + payload, size)
+    return "0 %d %s" % (count + 2, data)
 
 
 HEADER = "1 0 1 0 0 "
@@ -65,10 +65,10 @@ def still(width_bits, width, level=0, points="1 0 %d 0 0 0 0 0 0 0"):
     )
 
 
-def hd(timing_flag="0", timing=TIMING):
+def hd(timing_flag="0", timing=TIMING, points="1 0 8 0 0 0 0 0 0 0"):
     """Case 6: 1920 by 1080."""
     return (
-        HEADER + "0 0 0 " + timing_flag + timing + MODEL + "0 0 1 0 8 0 0 0 0 0 0 0 10 10 1919 1079 "
+        HEADER + "0 0 0 " + timing_flag + timing + MODEL + "0 0 " + points + " 10 10 1919 1079 "
         + "0 0 0  1 1 1  1 1 1 1 1 1 1  1 2 1 2  6 7  0 1 1" + COLOR % 0 + "0"
     )
 
@@ -76,6 +76,16 @@ def hd(timing_flag="0", timing=TIMING):
 # The bits of case 6 behind timing_info_present_flag (5.5.1): no initial delay, one point of level 8 and tier 0, the sizes, no frame ids, the tools, the
 # colour of 5.5.2 (8 bits, no mono, no description, range 0, position 0, no separate deltas), no film grain.
 HD_REST = "0 00000 000000000000 01000 0 1010 1010 11101111111 10000110111 0 111 1111 111 1 1 110 0 1 1 0 0 0 0 00 0 0"
+
+
+def timed(ticks, *points):
+    """Case 6 with 60 ticks a second and an equal picture interval of so many, minus 1."""
+    return hd("1", " 1 60 1 %d " % ticks, *points)
+
+
+def timed_bits(code):
+    """Its bits, with the uvlc code of the interval."""
+    return "000 0 0 1" + " " + format(1, "032b") + format(60, "032b") + "1" + code + " 0 " + HD_REST
 
 
 def quant(base, delta):
@@ -108,8 +118,7 @@ case(quant(0, 63), "0 17 " + packed("00000000 1 0111111 0"))
 case(quant(0, 64), "2 52 0 " + zeros(""))
 case(quant(0, -65), "2 52 0 " + zeros(""))
 for ticks, code in (0, "1"), (1, "010"), (2, "011"):
-    timing = "000 0 0 1" + " " + format(1, "032b") + format(60, "032b") + "1" + code + " 0 "
-    case("seq " + hd("1", " 1 60 1 %d " % ticks), obu(timing + HD_REST))
+    case("seq " + timed(ticks), obu(timed_bits(code)))
 case(quant(100, -1), "0 17 " + packed("01100100 1 1111111 0"))
 case(CDEF, "0 10 " + packed("00 00 0001 11"))
 for shift, bits in (0, "0"), (1, "10"), (2, "11"):
@@ -137,6 +146,15 @@ case(quant(100, -1) + ";buf=FFFF place=0", "3 3 0 FFFF")
 case(quant(100, -1) + " ;place=4294967295 buf=00", "3 536870914 0 00")
 case(quant(4294967295, 0) + " ;buf=00", "2 51 0 00")
 case(LR.replace("2 0 0 1", "4294967295 0 0 1") % 0 + ";buf=00", "2 76 0 00")
+
+# uvlc at both ends of each bit length L of the value plus 1, written and read: L - 1 zeros, and the value plus 1.
+for length in range(1, 33):
+    for ticks in sorted({2 ** (length - 1) - 1, 2**length - 2}):
+        answer = obu(timed_bits("0" * (length - 1) + format(ticks + 1, "b")), 32)
+        case("seq " + timed(ticks) + " ;buf=" + "00" * 32, answer)
+        done, count, data = answer.split()
+        case("read " + data[: 2 * int(count)], "0 " + " ".join(timed(ticks, "32 0 8" + " 0" * 286).split()))
+case("seq " + timed(2**32 - 1) + " ;buf=A5A5", "2 12 0 A5A5")
 
 # What the crate, the model of document 01 and real streams say.
 for name in "oracle", "read", "bad":
