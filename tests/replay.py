@@ -152,7 +152,7 @@ for length in range(1, 33):
     for ticks in sorted({2 ** (length - 1) - 1, 2**length - 2}):
         answer = obu(timed_bits("0" * (length - 1) + format(ticks + 1, "b")), 32)
         case("seq " + timed(ticks) + " ;buf=" + "00" * 32, answer)
-        done, count, data = answer.split()
+        _, count, data = answer.split()
         case("read " + data[: 2 * int(count)], "0 " + " ".join(timed(ticks, "32 0 8" + " 0" * 286).split()))
 case("seq " + timed(2**32 - 1) + " ;buf=A5A5", "2 12 0 A5A5")
 

@@ -9,7 +9,7 @@ use Rattle.bits.specs.Lawful.{strict}
 use Rattle.bits.specs.Answers.{Reads, value, found}
 use Rattle.bits.specs.declared.answer.Cursor.{Cursor}
 use Rattle.bits.proofs.Leaves.{f-law, f-fits}
-use Rattle.bits.proofs.CodeLaws.{zeros-inv, one-first}
+use Rattle.bits.proofs.CodeLaws.{zeros-inv, one-inv}
 
 pub f-small : {xs : List ℕ} {c q : Cursor} {v : ℕ} (n e i : ℕ) → Reads (f n e i .dec) xs c (value v q) → v < 2 ^ n
 unfolding found
@@ -20,8 +20,8 @@ unfolding found
 unary-small m e i r = zeros-inv m e i _ _ _ (r .finds) .0
 
 -- behind uvlc's zeros stands a one
-pub one-small : {xs : List ℕ} {c p q : Cursor} {z w : ℕ} (m e i : ℕ) → Reads (unary m e i) xs c (value z p) → Reads (f (z + 1) 0 0 .dec) xs p (value w q) → 0 < w
+pub one-some : {xs : List ℕ} {c p q : Cursor} {z w : ℕ} (m e i : ℕ) → Reads (unary m e i) xs c (value z p) → Reads (f (z + 1) 0 0 .dec) xs p (value w q) → 0 < w
 unfolding found
-one-small {z = z} m e i r s =
+one-some {z = z} m e i r s =
     let t = zeros-inv m e i _ _ _ (r .finds) in
-    omega (arith, pow-pos z, one-first z 0 0 (t .2) _ _ _ (t .3) (s .finds))
+    omega (arith, pow-pos z, one-inv z 0 0 (t .2) _ _ _ (t .3) (s .finds))

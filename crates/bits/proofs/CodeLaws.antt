@@ -48,14 +48,14 @@ unfolding toBits bitAt
 no-bits zero = refl
 no-bits (suc z) = rw (zero-div (2 ^ z)) (ap (λ (bs : Bits). false ∷ bs) (no-bits z))
 
--- a number of z + 1 bits, and not fewer, begins with a one
-first-one : (z w : ℕ) → 2 ^ z ≤ w → w < 2 ^ suc z → toBits (suc z) w ≡ true ∷ toBits z w
+-- a number of z + 1 bits, and not fewer, begins with a one; and what begins with a one is no smaller number
+one-front : (z w : ℕ) → 2 ^ z ≤ w → w < 2 ^ suc z → toBits (suc z) w ≡ true ∷ toBits z w
 unfolding toBits bitAt
-first-one z w l u = rw (div-eq-of-lt-le {k = 1} (2 ^ z) {m = w} (omega arith) (omega arith))
+one-front z w l u = rw (div-eq-of-lt-le {k = 1} (2 ^ z) {m = w} (omega arith) (omega arith))
 
-pub one-first : (z e i : ℕ) (tail bs : Bits) (w : ℕ) (rest : Bits) → true ∷ tail ≡ bs → f (z + 1) e i .dec bs ≡ got w rest → 2 ^ z ≤ w
+pub one-inv : (z e i : ℕ) (tail bs : Bits) (w : ℕ) (rest : Bits) → true ∷ tail ≡ bs → f (z + 1) e i .dec bs ≡ got w rest → 2 ^ z ≤ w
 unfolding f fromBits
-one-first z e i tail bs w rest o h =
+one-inv z e i tail bs w rest o h =
     let u = then-inv (takeBits (z + 1) bs) (λ xs rest. got (fromBits xs) rest) w rest h in
     let t = take-inv (z + 1) bs (u .0) (u .1) (u .2) in
     go (u .0) (u .1) (t .0) (t .1) (got-value (u .3))
@@ -105,7 +105,7 @@ module _ (e i z v : ℕ) (few : z ≤ 31) (lo : 2 ^ z ≤ v + 1) (hi : v + 1 < 2
   pub uvlc-reads : (rest : Bits) → uvlc e i .dec ((replicate z false ++ toBits (suc z) (v + 1)) ++ rest) ≡ got v rest
   unfolding uvlc
   uvlc-reads rest =
-      let b = first-one z (v + 1) lo hi in
+      let b = one-front z (v + 1) lo hi in
       let n : v + 1 - 1 ≡ v = omega arith in
       rw (append-assoc, b, zeros-front 31 e i z (toBits z (v + 1) ++ rest) few, add-one z, rw b at (f-reads-own (suc z) e i (v + 1) rest hi), n)
 
@@ -124,7 +124,7 @@ uvlc-sound e i bs v rest h =
     let x = then-inv (f (u .0 + 1) e i .dec (u .1)) (λ w end. got (w - 1) end) v rest (u .3) in
     let t = zeros-inv 31 e i bs (u .0) (u .1) (u .2) in
     let s = f-law {g = strict} (u .0 + 1) e i .sound (u .1) (x .0) (x .1) (x .2) in
-    let lo = one-first (u .0) e i (t .2) (u .1) (x .0) (x .1) (t .3) (x .2) in
+    let lo = one-inv (u .0) e i (t .2) (u .1) (x .0) (x .1) (t .3) (x .2) in
     go (u .0) (x .0) (s .0) (t .0) lo (s .1) (got-value (x .3)) (t .1) (s .2) (got-rest (x .3))
   where
     go : (z w : ℕ) (y : Bits) {r end : Bits} → z ≤ 31 → 2 ^ z ≤ w → f (z + 1) e i .spells w y → w - 1 ≡ v → replicate z false ++ r ≡ bs → y ++ end ≡ r → end ≡ rest

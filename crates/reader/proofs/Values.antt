@@ -20,7 +20,7 @@ use Rattle.bits.specs.declared.answer.GotNumber.{GotNumber}
 use Rattle.bits.specs.declared.answer.GotNumber.the-variants as N
 use Rattle.bits.specs.declared.answer.GotSigned.the-variants as I
 use Rattle.bits.proofs.Signs.{same, unflip-fits, unflip-is}
-use Rattle.bits.proofs.Bounds.{f-small, unary-small, one-small}
+use Rattle.bits.proofs.Bounds.{f-small, unary-small, one-some}
 use Rattle.bits.proofs.Reading.{is, is-not, start, recoded, read-last, read-no}
 
 -- The numbers of su(n)'s codes, by the test that the code makes.
@@ -62,7 +62,7 @@ module _ (e i : ℕ) {xs : List ℕ} {c : Cursor} {g : GotNumber} (s : Said form
 
       module _ (v : ℕ) {d : Cursor} (q : k ≡ N.Value v d) where
         pub uvlc-some : 1 ≤ v
-        uvlc-some = one-small 31 e i (is s h) (is whole-width q)
+        uvlc-some = one-some 31 e i (is s h) (is whole-width q)
 
         pub uvlc-done : Said form.number (uvlc e i .dec) xs c (N.Value (v - 1) d)
         unfolding uvlc f found moved

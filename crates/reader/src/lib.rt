@@ -158,10 +158,10 @@ pub fn uvlc(s: &[u8], c: Cursor, element: u8, index: u8) -> GotNumber
     };
     let length = zeros + 1;
     let g = f(s, c, length);
-    let GotNumber::Value(v, c) = g else {
+    let GotNumber::Value(plus_1, c) = g else {
         return g;
     };
-    GotNumber::Value(v - 1, c)
+    GotNumber::Value(plus_1 - 1, c)
 }
 
 // su(n); a width over 32, which is that of the value, counts as 32.
