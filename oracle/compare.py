@@ -22,7 +22,7 @@ import rows
 
 BATCH = 5000
 # What we answer where a row decides by making the crate go on: number, and elements if the row is about some.
-OURS = {3: "2", 4: "2", 5: "2", 6: "2 12 0", 10: "1 7 0", 12: "1 37 0", 13: "1 45 0", 23: "2 75 0", 24: "2 70 0", 27: "2 79 0", 31: "8 0 0"}
+OURS = {3: "2", 4: "2", 5: "2", 6: "2 12 0 33", 10: "1 7 0", 12: "1 37 0", 13: "1 45 0", 23: "2 75 0 0", 24: "2 70 0", 27: "2 79 0 0", 31: "8 0 0"}
 
 
 def run(command, lines):

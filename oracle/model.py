@@ -31,7 +31,12 @@ DEFAULT_REF_DELTAS = [1, 0, 0, 0, -1, 0, -1, -1]
 
 
 class Refused(Exception):
-    """Document 01's number and its two values."""
+    """Document 01's number and its two values; number 2 has a third, the width (request 4)."""
+
+
+def holds(n, v):
+    """Whether two's complement in n bits, at least one, holds v."""
+    return -(2 ** (n - 1)) <= v <= 2 ** (n - 1) - 1
 
 
 class Writer:
@@ -53,17 +58,17 @@ class Writer:
     # 4.10
     def f(self, n, v, element=None, index=0):
         if v >= 2**n:
-            raise Refused(2, NUMBER[element], index)
+            raise Refused(2, NUMBER[element], index, v.bit_length())
         self.put(n, v)
 
     def su(self, n, v, element, index=0):
-        if not -(2 ** (n - 1)) <= v <= 2 ** (n - 1) - 1:
-            raise Refused(2, NUMBER[element], index)
+        if not holds(n, v):
+            raise Refused(2, NUMBER[element], index, next(width for width in range(1, 33) if holds(width, v)))
         self.put(n, v % 2**n)
 
     def uvlc(self, v, element):
         if v == 2**32 - 1:
-            raise Refused(2, NUMBER[element], 0)
+            raise Refused(2, NUMBER[element], 0, 33)
         length = (v + 1).bit_length()
         self.put(length - 1, 0)
         self.put(length, v + 1)
@@ -449,13 +454,13 @@ class Writer:
 
     def damping(self, v):
         if not 3 <= v <= 6:
-            raise Refused(2, NUMBER["cdef_damping"], 0)
+            raise Refused(2, NUMBER["cdef_damping"], 0, 0)
         self.put(2, v - 3)
 
     def secondary(self, v, element, i):
         self.demand(v != 3, element, i)
         if v > 4:
-            raise Refused(2, NUMBER[element], i)
+            raise Refused(2, NUMBER[element], i, 0)
         self.put(2, 3 if v == 4 else v)
 
     # 5.9.20
@@ -486,11 +491,15 @@ class Writer:
 
     def large_shift(self, v):
         self.demand(v != 0, "lr_unit_shift")
-        self.f(1, v - 1, "lr_unit_shift")
+        self.coded_shift(v)
+        self.put(1, v - 1)
+
+    def coded_shift(self, v):
+        if v > 2:
+            raise Refused(2, NUMBER["lr_unit_shift"], 0, 0)
 
     def small_shift(self, v):
-        if v > 2:
-            raise Refused(2, NUMBER["lr_unit_shift"], 0)
+        self.coded_shift(v)
         self.put(*((1, 0), (2, 2), (2, 3))[v])
 
 

@@ -97,6 +97,7 @@ UNCODED = "lf %d %d 3 0 0 0 0 0 0 0 %s 0 0 ; buf=A5"
 DEFAULT_DELTAS, EXCHANGED = "1 0 0 0 -1 0 -1 -1", "1 0 0 0 0 -1 -1 -1"
 CDEF = "cdef 0 0 1 1 0 3" + " 1" + " 0" * 7 + " 4" + " 0" * 7 + " 0" * 16
 LR = "lr 0 0 1 1 0 1 1 2 0 0 1 0 %d 0"
+DELTAS = "lf 0 0 3 0 0 0 0 0 1 1 %s %s"
 
 # Document 01's worked table.
 case("td 2 0 1 0 0", "0 2 " + zeros("1200"))
@@ -115,8 +116,8 @@ case("seq " + still(7, 256), "1 21 0 " + zeros(""))
 case(quant(0, -1), "0 17 " + packed("00000000 1 1111111 0"))
 case(quant(0, -64), "0 17 " + packed("00000000 1 1000000 0"))
 case(quant(0, 63), "0 17 " + packed("00000000 1 0111111 0"))
-case(quant(0, 64), "2 52 0 " + zeros(""))
-case(quant(0, -65), "2 52 0 " + zeros(""))
+case(quant(0, 64), "2 52 0 8 " + zeros(""))
+case(quant(0, -65), "2 52 0 8 " + zeros(""))
 for ticks, code in (0, "1"), (1, "010"), (2, "011"):
     case("seq " + timed(ticks), obu(timed_bits(code)))
 case(quant(100, -1), "0 17 " + packed("01100100 1 1111111 0"))
@@ -144,8 +145,8 @@ case("td 2 0 999999999999999999 0 0;buf=0000", "0 2 1200")
 case(quant(100, -1) + " ;place=3 buf=FFFFFFFF", "0 20 " + packed("111 01100100 1 1111111 0 111111111111", 4))
 case(quant(100, -1) + ";buf=FFFF place=0", "3 3 0 FFFF")
 case(quant(100, -1) + " ;place=4294967295 buf=00", "3 536870914 0 00")
-case(quant(4294967295, 0) + " ;buf=00", "2 51 0 00")
-case(LR.replace("2 0 0 1", "4294967295 0 0 1") % 0 + ";buf=00", "2 76 0 00")
+case(quant(4294967295, 0) + " ;buf=00", "2 51 0 32 00")
+case(LR.replace("2 0 0 1", "4294967295 0 0 1") % 0 + ";buf=00", "2 76 0 32 00")
 
 # uvlc at both ends of each bit length L of the value plus 1, written and read: L - 1 zeros, and the value plus 1.
 for length in range(1, 33):
@@ -154,7 +155,38 @@ for length in range(1, 33):
         case("seq " + timed(ticks) + " ;buf=" + "00" * 32, answer)
         _, count, data = answer.split()
         case("read " + data[: 2 * int(count)], "0 " + " ".join(timed(ticks, "32 0 8" + " 0" * 286).split()))
-case("seq " + timed(2**32 - 1) + " ;buf=A5A5", "2 12 0 A5A5")
+case("seq " + timed(2**32 - 1) + " ;buf=A5A5", "2 12 0 33 A5A5")
+
+# The least width that would hold a value that does not fit (request 4): both ends of each bit length beyond the field's, of a field of each part; both
+# signs of su(7); and 0 where no width helps.
+for length in range(9, 33):
+    for base in 2 ** (length - 1), 2**length - 1:
+        case(quant(base, 0) + ";buf=A5", "2 51 0 %d A5" % length)
+for delta in 64, 127, -65, -128:
+    case(quant(0, delta) + ";buf=A5", "2 52 0 8 A5")
+    case(DELTAS % ("0 0 0 0 0 %d 0 0" % delta, "0 0") + ";buf=A5", "2 67 5 8 A5")
+    case(DELTAS % (DEFAULT_DELTAS, "0 %d" % delta) + ";buf=A5", "2 68 1 8 A5")
+for length in range(7, 33):
+    for level in 2 ** (length - 1), 2**length - 1:
+        case("lf 0 0 3 0 1 0 %d 0 0 0" % level + " 0" * 10 + ";buf=A5", "2 66 3 %d A5" % length)
+for width_bits, length in (16, 5), (31, 5), (32, 6), (255, 8):
+    case("seq " + still(width_bits, 0) + ";buf=A5", "2 21 0 %d A5" % length)
+for level, length in (32, 6), (63, 6), (64, 7), (2**32 - 1, 32):
+    case("seq " + still(0, 0, level) + ";buf=A5", "2 9 0 %d A5" % length)
+for idc, length in (4096, 13), (8191, 13), (2**31, 32):
+    case("seq " + hd(points="1 %d 8 0 0 0 0 0 0 0" % idc) + ";buf=A5", "2 8 0 %d A5" % length)
+for tier, length in (2, 2), (3, 2), (4, 3):
+    case("seq " + hd(points="1 0 8 %d 0 0 0 0 0 0" % tier) + ";buf=A5", "2 17 0 %d A5" % length)
+case("td 2 1 1 8 0;buf=A5", "2 2 0 4 A5")
+case("td 2 1 1 0 4;buf=A5", "2 3 0 3 A5")
+for damping in 0, 2, 7, 8, 2**32 - 1:
+    case(CDEF.replace("1 1 0 3", "1 1 0 %d" % damping, 1) + ";buf=A5", "2 75 0 0 A5")
+for second in 5, 7, 2**32 - 1:
+    case(CDEF.replace(" 4", " %d" % second, 1) + ";buf=A5", "2 72 0 0 A5")
+case(CDEF.replace("1 1 0 3 1", "1 1 0 3 16", 1) + ";buf=A5", "2 71 0 5 A5")
+for shift in 3, 4, 2**32 - 1:
+    case(LR % shift + ";buf=A5", "2 79 0 0 A5")
+    case(LR.replace("lr 0 0 1 1 0", "lr 0 0 1 1 1") % shift + ";buf=A5", "2 79 0 0 A5")
 
 # What the crate, the model of document 01 and real streams say.
 for name in "oracle", "read", "bad":

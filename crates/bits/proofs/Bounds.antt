@@ -1,15 +1,22 @@
 -- What was read fits.
+use mathlib.Core.Path.{subst}
 use mathlib.Core.List.{List}
 use Prim.Native.Nat.{ℕ, _+_, _^_, _<_, _≤_}
 use native.Mathlib.Omega.{arith}
 use lib.Pow.{pow-pos}
-use Rattle.bits.specs.Codec.{f}
+use Rattle.bits.specs.Bits.{Bits, fromBits}
+use Rattle.bits.specs.Codec.{takeBits, f}
 use Rattle.bits.specs.Codes.{unary}
 use Rattle.bits.specs.Lawful.{strict}
 use Rattle.bits.specs.Answers.{Reads, value, found}
 use Rattle.bits.specs.declared.answer.Cursor.{Cursor}
-use Rattle.bits.proofs.Leaves.{f-law, f-fits}
+use Rattle.bits.proofs.Numbers.{from-lt}
+use Rattle.bits.proofs.Leaves.{take-inv, f-law, f-fits}
 use Rattle.bits.proofs.CodeLaws.{zeros-inv, one-inv}
+
+pub bits-small : {xs : List ℕ} {c q : Cursor} {bs : Bits} (n : ℕ) → Reads (takeBits n) xs c (value bs q) → fromBits bs < 2 ^ n
+unfolding found
+bits-small {bs = bs} n r = subst (λ (k : ℕ). fromBits bs < 2 ^ k) (take-inv n _ _ _ (r .finds) .0) (from-lt bs)
 
 pub f-small : {xs : List ℕ} {c q : Cursor} {v : ℕ} (n e i : ℕ) → Reads (f n e i .dec) xs c (value v q) → v < 2 ^ n
 unfolding found

@@ -8,19 +8,21 @@ use lib.ListN.{length, length-append, replicate}
 use lib.Dec.{ltb, leb, lit<}
 use native.Mathlib.Nat.{div-lt-iff-lt-mul, div-eq-of-lt-le, pow-suc, zero-div}
 use native.Mathlib.Numerals.{add-one}
-use lib.Count.{leadingZeros, leading-top}
+use lib.Count.{leading-top}
 use lib.Pow.{pow-pos, pow-mono}
 use lib.IntN.{ℤ, pos, negsuc}
-use borrow.Author.Tests.{lt-ltb, le-ltb, le-leb, lt-leb, ltb-true, leb-true, ltb-false, leb-false}
+use borrow.Author.Tests.{lt-ltb, le-ltb, le-leb, ltb-true, leb-true, ltb-false}
 use Rattle.bits.specs.Bits.{Bits, bitAt, toBits, fromBits}
-use Rattle.bits.specs.Walk.{field, _⊕_, wrote, join, run}
+use Rattle.bits.specs.Widths.{widthUpTo, bitLength, signedLength}
+use Rattle.bits.specs.Walk.{unsigned, _⊕_, wrote, join, run}
 use Rattle.bits.specs.Codec.{Codec, got, andThen, takeBits, f, absent, choose, _▷_, merged}
-use Rattle.bits.specs.Codes.{topBit, unary, uvlc, su-out, su-in, su, leb-out, leb-in, tooLong, leb-step, leb128}
+use Rattle.bits.specs.Codes.{unary, uvlc, su-out, su-in, su, leb-out, leb-in, tooLong, leb-step, leb128}
 use Rattle.bits.proofs.Numbers.{length-toBits}
 use Rattle.bits.specs.Lawful.{Grade, strict, wants, Lawful, Least, shorter}
 use Rattle.bits.specs.declared.answer.Refusal.the-variants.{Unfit}
-use Rattle.bits.proofs.Laws.{wrote-bits, refused-wrote, stop-got, got-value, got-rest, then-inv, joined, join-inv, glue, passed, join-none, spells-coded, seq-law, choose-law, recode-law, merged-law}
-use Rattle.bits.proofs.Leaves.{take-inv, f-law, single-law, f-fits, f-length, f-enc, absent-law}
+use Rattle.bits.proofs.Laws.{wrote-bits, refused-wrote, stop-got, got-value, got-rest, then-inv, joined, join-inv, glue, passed, join-none, spells-coded, seq-law, choose-law, merged-law}
+use Rattle.bits.proofs.Widths.{bit-is, up-to-is}
+use Rattle.bits.proofs.Leaves.{take-inv, fieldAs-law, f-law, single-law, f-fits, f-length, f-enc, absent-law}
 
 -- uvlc's zeros are those in front of a one, which stays
 zeros-front : (m e i z : ℕ) (rest : Bits) → z ≤ m → unary m e i (replicate z false ++ true ∷ rest) ≡ got z (true ∷ rest)
@@ -67,27 +69,6 @@ one-inv z e i tail bs w rest o h =
         let t : b ≡ true = cc in
         omega (arith, rw (t, k) at q)
 
-top-at : (k z w : ℕ) → z ≤ k → 2 ^ z ≤ w → w < 2 ^ suc z → topBit k w ≡ z
-unfolding topBit
-top-at zero z w h l u = omega arith
-top-at (suc k) z w h l u = go (leb z k) refl (top-at k z w)
-  where
-    go : (b : Bool) → leb z k ≡ b → (z ≤ k → 2 ^ z ≤ w → w < 2 ^ suc z → topBit k w ≡ z) → topBit (suc k) w ≡ z
-    go true e ih =
-        let zk : z ≤ k = leb-true z k e in
-        let p : 2 ^ suc z ≤ 2 ^ suc k = pow-mono (omega arith) in
-        rw (lt-leb (2 ^ suc k) w (omega arith)) (ih zk l u)
-    go false e ih =
-        let zk : k < z = leb-false z k e in
-        let q : z ≡ suc k = omega arith in
-        rw (le-leb (2 ^ suc k) w (rw q at l)) (sym q)
-
--- A number of 32 bits has leading zeros, its highest one and the bits below that: its bit length is all but the zeros.
-pub bit-length : (w : ℕ) → 0 < w → w < 2 ^ 32 → 32 - leadingZeros 32 w ≡ topBit 32 w + 1
-bit-length w some few =
-    let t = leading-top 32 w some few in
-    omega (arith, t .1, top-at 32 (t .0) w (omega (arith, t .1)) (t .2) (t .3))
-
 f-reads-own : (n e i v : ℕ) (rest : Bits) → v < 2 ^ n → f n e i .dec (toBits n v ++ rest) ≡ got v rest
 unfolding f
 f-reads-own n e i v rest h = f-law {g = strict} n e i .complete v (toBits n v) rest (f-enc n e i v h)
@@ -98,9 +79,9 @@ module _ (e i z v : ℕ) (few : z ≤ 31) (lo : 2 ^ z ≤ v + 1) (hi : v + 1 < 2
   unfolding uvlc run join
   uvlc-writes =
       let p : 2 ^ suc z ≤ 2 ^ 32 = pow-mono {j = 32} (omega arith) in
-      let t : topBit 32 (v + 1) ≡ z = top-at 32 z (v + 1) (omega arith) lo hi in
+      let t : widthUpTo 33 (v + 1) ≡ suc z = up-to-is 33 (v + 1) (omega arith) ∙ bit-is (v + 1) z lo hi in
       let k : suc z - 1 ≡ z = omega arith in
-      rw (t, add-one z, k, lt-ltb v (2 ^ 32 - 1) (omega arith), lt-ltb 0 (2 ^ z) (pow-pos z), no-bits z, lt-ltb (v + 1) (2 ^ suc z) hi)
+      rw (t, k, lt-ltb v (2 ^ 32 - 1) (omega arith), lt-ltb 0 (2 ^ z) (pow-pos z), no-bits z, lt-ltb (v + 1) (2 ^ suc z) hi)
 
   pub uvlc-reads : (rest : Bits) → uvlc e i .dec ((replicate z false ++ toBits (suc z) (v + 1)) ++ rest) ≡ got v rest
   unfolding uvlc
@@ -112,7 +93,7 @@ module _ (e i z v : ℕ) (few : z ≤ 31) (lo : 2 ^ z ≤ v + 1) (hi : v + 1 < 2
 uvlc-complete : (e i v : ℕ) (bs rest : Bits) → run (uvlc e i .enc v) ≡ wrote bs → uvlc e i .dec (bs ++ rest) ≡ got v rest
 unfolding uvlc run
 uvlc-complete e i v bs rest h =
-    let t = ltb-true v (2 ^ 32 - 1) (passed (ltb v (2 ^ 32 - 1)) (Unfit e i) h .0) in
+    let t = ltb-true v (2 ^ 32 - 1) (passed (ltb v (2 ^ 32 - 1)) (Unfit e i (bitLength (v + 1))) h .0) in
     let j = leading-top 32 (v + 1) (omega arith) (omega arith) in
     let few : j .0 ≤ 31 = omega (arith, j .1) in
     rw (wrote-bits (sym h ∙ uvlc-writes e i (j .0) v few (j .2) (j .3))) (uvlc-reads e i (j .0) v few (j .2) (j .3) rest)
@@ -166,10 +147,8 @@ su-there n (negsuc m) h = go (leb (suc m * 2) (2 ^ n)) refl h
     go false e h = absurd (omega arith)
 
 pub su-law : {g : Grade} (n e i : ℕ) → Lawful g (su n e i)
-unfolding su f
-su-law n e i = recode-law (su-out n) (su-in n) (f-law n e i)
-    (λ v bs s. su-back n v (f-fits n e i v bs s))
-    (λ z bs s. su-there n z (f-fits n e i (su-out n z) bs s))
+unfolding su
+su-law n e i = fieldAs-law n (su-out n) (su-in n) (λ z. Unfit e i (signedLength z)) (su-back n) (su-there n)
 
 pub tooLong-law : {g : Grade} → Lawful g tooLong
 unfolding tooLong run
@@ -328,7 +307,7 @@ leb-total (suc k) n h p = go (ltb n 128) refl (ltb 0 k) refl (leb-total k (n / 1
         absurd (omega arith)
 
 -- The bytes of leb128, as its loop writes them.
-pub leb-more : (k n m : ℕ) → 128 ≤ n → n < 128 ^ k → n / 128 ≡ m → (0 < k - 1) × (m < 128 ^ (k - 1)) × (run (field 8 (128 + n % 128) 0 0 ⊕ leb128 (k - 1) .enc m) ≡ run (leb128 k .enc n))
+pub leb-more : (k n m : ℕ) → 128 ≤ n → n < 128 ^ k → n / 128 ≡ m → (0 < k - 1) × (m < 128 ^ (k - 1)) × (run (unsigned 8 (128 + n % 128) 0 0 ⊕ leb128 (k - 1) .enc m) ≡ run (leb128 k .enc n))
 unfolding leb128 merged leb-step _▷_ choose f absent run
 leb-more zero n m l h e = absurd (omega arith)
 leb-more (suc zero) n m l h e = absurd (omega arith)
@@ -338,16 +317,7 @@ leb-more (suc (suc k)) n m l h e =
     let o : 128 ≤ 128 + n % 128 = omega arith in
     (omega arith, rw (← e, j) (div-lt-iff-lt-mul (lit< tt) .1 (rw (pow-suc 128 (suc k)) at h)), rw (← e, j, le-ltb n 128 l, le-ltb (128 + n % 128) 128 o))
 
-pub leb-last : (k n : ℕ) → n < 128 → n < 128 ^ k → 0 < k → run (field 8 n 0 0) ≡ run (leb128 k .enc n)
+pub leb-last : (k n : ℕ) → n < 128 → n < 128 ^ k → 0 < k → run (unsigned 8 n 0 0) ≡ run (leb128 k .enc n)
 unfolding leb128 merged f run
 leb-last zero n l h p = absurd (omega arith)
 leb-last (suc k) n l h p = f-enc 8 0 0 n (omega arith) ∙ sym (rw (leb-out-short n l) (leb-short k n l))
-
-pub top-most : (k w : ℕ) → topBit k w ≤ k
-unfolding topBit
-top-most zero w = omega arith
-top-most (suc k) w = go (leb (2 ^ suc k) w) (top-most k w)
-  where
-    go : (b : Bool) → topBit k w ≤ k → cond b (suc k) (topBit k w) ≤ suc k
-    go true h = omega arith
-    go false h = omega arith

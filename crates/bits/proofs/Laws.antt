@@ -7,7 +7,7 @@ use native.Mathlib.Omega.{arith}
 use lib.ListN.{length, length-append}
 use Rattle.bits.specs.Bits.{Bits}
 use Rattle.bits.specs.Walk.{Out, End, done, refused, wrote, refuses, after, join, run}
-use Rattle.bits.specs.Codec.{Codec, Got, got, stop, andThen, _▷_, choose, select, via, allowed, within, checked, recode, merged}
+use Rattle.bits.specs.Codec.{Codec, Got, got, stop, andThen, _▷_, choose, select, via, allowed, within, checked, merged}
 use Rattle.bits.specs.Lawful.{Least, same, shorter, Grade, wants, Lawful}
 use Rattle.bits.specs.declared.answer.Refusal.{Refusal}
 
@@ -212,24 +212,6 @@ module _ {A : Type 0} (test : A → Bool) (r : Refusal) {g : Grade} {c : Codec A
     least = λ w a bs s.
         let x = C .least w a bs (s .1) in
         (x .0, passes r (s .0) (x .1), x .2);
-  }
-
-module _ {A B : Type 0} (to : B → A) (from : A → B) {g : Grade} {c : Codec A} where
-  pub recode-law : Lawful g c → ((a : A) (bs : Bits) → c .spells a bs → to (from a) ≡ a)
-      → ((b : B) (bs : Bits) → c .spells (to b) bs → from (c .coded (to b)) ≡ b) → Lawful g (recode to from c)
-  unfolding recode
-  recode-law C back there = record {
-    own = λ b bs h. C .own (to b) bs h;
-    complete = λ b bs rest s. rw (C .complete (to b) bs rest s) (ap (λ (x : B). got x rest) (there b bs s));
-    sound = λ bs b rest h.
-        let u = then-inv (c .dec bs) (λ a rest. got (from a) rest) b rest h in
-        let x = C .sound bs (u .0) (u .1) (u .2) in
-        let g : (front : Bits) × ((recode to from c) .spells (from (u .0)) front) × (front ++ rest ≡ bs) =
-        (x .0, subst (λ (q : A). c .spells q (x .0)) (sym (back (u .0) (x .0) (x .1))) (x .1), ap (λ (t : Bits). x .0 ++ t) (sym (got-rest (u .3))) ∙ x .2) in
-        subst (λ (q : B). (front : Bits) × ((recode to from c) .spells q front) × (front ++ rest ≡ bs)) (got-value (u .3)) g;
-    idem = λ b. refl;
-    blind = λ b. refl;
-    least = λ w b bs s. C .least w (to b) bs s;
   }
 
 module _ {A B : Type 0} (to : B → A) (from : A → B) {g : Grade} {c : Codec A} where

@@ -8,10 +8,12 @@ use lib.ListN.{length, getD}
 use lib.Dec.{eqb, ltb}
 use borrow.Author.Tests.{lt-ltb, ltb-true, eq-eqb, eqb-true}
 use Rattle.bits.specs.Bits.{Bits, toBits, fromBits}
-use Rattle.bits.specs.Walk.{Walk, field, wrote, refuses, run}
-use Rattle.bits.specs.Codec.{Codec, Got, got, stop, andThen, single, takeBits, f, takeFlag, flag, absent, inferred, inferredFlag, sameFlag, zeros, readZeros, array, uncons, Nil, nil, choose, select, via, _▷_}
+use Rattle.bits.specs.Widths.{bitLength}
+use Rattle.bits.specs.Walk.{Walk, field, unsigned, wrote, refuses, run}
+use Rattle.bits.specs.Codec.{Codec, Got, got, stop, andThen, single, takeBits, fieldAs, f, takeFlag, flag, absent, inferred, inferredFlag, sameFlag, zeros, readZeros, array, uncons, Nil, nil, choose, select, via, _▷_}
 use Rattle.bits.proofs.Numbers.{length-toBits, from-to-fits, to-from, from-lt}
 use Rattle.bits.specs.Lawful.{Grade, Lawful, same}
+use Rattle.bits.specs.declared.answer.Refusal.{Refusal}
 use Rattle.bits.specs.declared.answer.Refusal.the-variants.{Inconsistent, Unfit, Reserved}
 use Rattle.bits.proofs.Laws.{wrote-bits, refused-wrote, stop-got, got-value, got-rest, then-inv, cond-inv, seq-law, choose-law, select-law, allowed-law, within-law, via-law}
 
@@ -91,56 +93,85 @@ take-inv (suc n) (b ∷ bs) xs rest h =
     let v = take-inv n bs (u .0) (u .1) (u .2) in
     take-more n b bs (u .0) (u .1) xs rest (u .3) (v .0) (v .1)
 
-f-reads : (n v : ℕ) (bs rest : Bits) → v < 2 ^ n → toBits n v ≡ bs → andThen (takeBits n (bs ++ rest)) (λ xs rest. got (fromBits xs) rest) ≡ got v rest
-f-reads n v bs rest h e =
-    let t : takeBits n (bs ++ rest) ≡ got bs rest = subst (λ (k : ℕ). takeBits k (bs ++ rest) ≡ got bs rest) (ap length (sym e) ∙ length-toBits n v) (take-front bs rest) in
-    rw t (ap (λ (x : ℕ). got x rest) (ap fromBits (sym e) ∙ from-to-fits n v h))
+-- what a field writes are the number's bits, and it fits
+module _ (n v : ℕ) (r : Refusal) where
+  pub field-run : v < 2 ^ n → run (field n v r) ≡ wrote (toBits n v)
+  unfolding run
+  field-run h = rw (lt-ltb v (2 ^ n) h)
 
-f-writes : (n e i : ℕ) (xs : Bits) (v : ℕ) → length xs ≡ n → fromBits xs ≡ v → cond (ltb v (2 ^ n)) (wrote (toBits n v)) (refuses (Unfit e i)) ≡ wrote xs
-f-writes n e i xs v l h = rw (← h, ← l, lt-ltb (fromBits xs) (2 ^ length xs) (from-lt xs), to-from xs)
+  -- bits are what a field writes of their number
+  field-of : (xs : Bits) → length xs ≡ n → v ≡ fromBits xs → run (field n v r) ≡ wrote xs
+  unfolding run
+  field-of xs l h = rw (h, ← l, lt-ltb (fromBits xs) (2 ^ length xs) (from-lt xs), to-from xs)
+
+  module _ (bs : Bits) (s : run (field n v r) ≡ wrote bs) where
+    pub field-fits : v < 2 ^ n
+    unfolding run
+    field-fits = ltb-true v (2 ^ n) ((cond-inv (ltb v (2 ^ n)) s refused-wrote) .0)
+
+    field-bits : toBits n v ≡ bs
+    field-bits = wrote-bits (sym (field-run field-fits) ∙ s)
+
+    field-length : length bs ≡ n
+    field-length = ap length (sym field-bits) ∙ length-toBits n v
+
+    field-taken : (rest : Bits) → takeBits n (bs ++ rest) ≡ got bs rest
+    field-taken rest = subst (λ (k : ℕ). takeBits k (bs ++ rest) ≡ got bs rest) field-length (take-front bs rest)
+
+    field-back : fromBits bs ≡ v
+    field-back = ap fromBits (sym field-bits) ∙ from-to-fits n v field-fits
+
+-- n bits of a value, whose numbers and values stand for each other where they fit
+module _ {g : Grade} {A : Type 0} (n : ℕ) (to : A → ℕ) (from : ℕ → A) (r : A → Refusal) where
+  pub fieldAs-law : ((v : ℕ) → v < 2 ^ n → to (from v) ≡ v) → ((a : A) → to a < 2 ^ n → from (to a) ≡ a) → Lawful g (fieldAs n to from r)
+  fieldAs-law back there = single-law _ _ reads spelled
+    where
+      reads : (a : A) (bs rest : Bits) → run (field n (to a) (r a)) ≡ wrote bs → andThen (takeBits n (bs ++ rest)) (λ xs rest. got (from (fromBits xs)) rest) ≡ got a rest
+      reads a bs rest h = rw (field-taken n (to a) (r a) bs h rest, field-back n (to a) (r a) bs h) (ap (λ (x : A). got x rest) (there a (field-fits n (to a) (r a) bs h)))
+
+      spelled : (bs : Bits) (a : A) (rest : Bits) → andThen (takeBits n bs) (λ xs rest. got (from (fromBits xs)) rest) ≡ got a rest → (front : Bits) × (run (field n (to a) (r a)) ≡ wrote front) × (front ++ rest ≡ bs)
+      spelled bs a rest h =
+          let u = then-inv (takeBits n bs) (λ xs rest. got (from (fromBits xs)) rest) a rest h in
+          let t = take-inv n bs (u .0) (u .1) (u .2) in
+          let l : fromBits (u .0) < 2 ^ n = subst (λ (k : ℕ). fromBits (u .0) < 2 ^ k) (t .0) (from-lt (u .0)) in
+          let e : to a ≡ fromBits (u .0) = ap to (sym (got-value (u .3))) ∙ back (fromBits (u .0)) l in
+          (u .0, field-of n (to a) (r a) (u .0) (t .0) e, ap (λ (r : Bits). u .0 ++ r) (sym (got-rest (u .3))) ∙ t .1)
 
 pub f-law : {g : Grade} (n e i : ℕ) → Lawful g (f n e i)
-unfolding f run
-f-law n e i = single-law _ _
-    (λ v bs rest h. let t = cond-inv (ltb v (2 ^ n)) h refused-wrote in f-reads n v bs rest (ltb-true v (2 ^ n) (t .0)) (wrote-bits (t .1)))
-    (λ bs v rest h. let u = then-inv (takeBits n bs) (λ xs rest. got (fromBits xs) rest) v rest h in
-    let t = take-inv n bs (u .0) (u .1) (u .2) in
-    (u .0, f-writes n e i (u .0) v (t .0) (got-value (u .3)), ap (λ (r : Bits). u .0 ++ r) (sym (got-rest (u .3))) ∙ t .1))
+unfolding f
+f-law n e i = fieldAs-law n (λ v. v) (λ v. v) (λ v. Unfit e i (bitLength v)) (λ v h. refl) (λ v h. refl)
 
-pub f-enc : (n e i v : ℕ) → v < 2 ^ n → run ((f n e i) .enc v) ≡ wrote (toBits n v)
-unfolding f run
-f-enc n e i v h = rw (lt-ltb v (2 ^ n) h)
+pub f-enc : (n e i v : ℕ) → v < 2 ^ n → run (f n e i .enc v) ≡ wrote (toBits n v)
+unfolding f
+f-enc n e i v h = field-run n v _ h
 
 -- a spelled number fits
-pub f-fits : (n e i v : ℕ) (bs : Bits) → (f n e i) .spells v bs → v < 2 ^ n
-unfolding f run
-f-fits n e i v bs s = ltb-true v (2 ^ n) ((cond-inv (ltb v (2 ^ n)) s refused-wrote) .0)
+pub f-fits : (n e i v : ℕ) (bs : Bits) → f n e i .spells v bs → v < 2 ^ n
+unfolding f
+f-fits n e i v bs s = field-fits n v _ bs s
 
-pub f-length : (n e i v : ℕ) (bs : Bits) → (f n e i) .spells v bs → length bs ≡ n
-unfolding f run
-f-length n e i v bs s = ap length (sym (wrote-bits ((cond-inv (ltb v (2 ^ n)) s refused-wrote) .1))) ∙ length-toBits n v
+pub f-length : (n e i v : ℕ) (bs : Bits) → f n e i .spells v bs → length bs ≡ n
+unfolding f
+f-length n e i v bs s = field-length n v _ bs s
 
-zeros-reads : (n : ℕ) (bs rest : Bits) → run (field n 0 0 0) ≡ wrote bs → readZeros n (bs ++ rest) ≡ got nil rest
-unfolding run
+zeros-reads : (n : ℕ) (bs rest : Bits) → run (unsigned n 0 0 0) ≡ wrote bs → readZeros n (bs ++ rest) ≡ got nil rest
 zeros-reads n bs rest h =
-    let t = cond-inv (ltb 0 (2 ^ n)) h refused-wrote in
-    let e : toBits n 0 ≡ bs = wrote-bits (t .1) in
-    let k : takeBits n (bs ++ rest) ≡ got bs rest = subst (λ (k : ℕ). takeBits k (bs ++ rest) ≡ got bs rest) (ap length (sym e) ∙ length-toBits n 0) (take-front bs rest) in
-    let z : fromBits bs ≡ 0 = ap fromBits (sym e) ∙ from-to-fits n 0 (ltb-true 0 (2 ^ n) (t .0)) in
+    let k : takeBits n (bs ++ rest) ≡ got bs rest = field-taken n 0 _ bs h rest in
+    let z : fromBits bs ≡ 0 = field-back n 0 _ bs h in
     rw (k, z)
 
 pub zeros-law : {g : Grade} (n : ℕ) → Lawful g (zeros n)
-unfolding zeros run
+unfolding zeros
 zeros-law n = single-law _ _
     (λ a bs rest h. zeros-reads n bs rest h)
     (λ bs a rest h. let u = then-inv (takeBits n bs) (λ xs rest. cond (eqb (fromBits xs) 0) (got nil rest) (stop Reserved)) nil rest h in
     let c = cond-inv (eqb (fromBits (u .0)) 0) (u .3) stop-got in
     let t = take-inv n bs (u .0) (u .1) (u .2) in
-    (u .0, f-writes n 0 0 (u .0) 0 (t .0) (eqb-true (fromBits (u .0)) 0 (c .0)), ap (λ (r : Bits). u .0 ++ r) (sym (got-rest (c .1))) ∙ t .1))
+    (u .0, field-of n 0 _ (u .0) (t .0) (sym (eqb-true (fromBits (u .0)) 0 (c .0))), ap (λ (r : Bits). u .0 ++ r) (sym (got-rest (c .1))) ∙ t .1))
 
 pub zeros-length : (n : ℕ) (a : Nil) (bs : Bits) → zeros n .spells a bs → length bs ≡ n
-unfolding zeros run
-zeros-length n a bs s = ap length (sym (wrote-bits ((cond-inv (ltb 0 (2 ^ n)) s refused-wrote) .1))) ∙ length-toBits n 0
+unfolding zeros
+zeros-length n a bs s = field-length n 0 _ bs s
 
 pub array-law : {g : Grade} {A : Type 0} (z : A) (item : ℕ → Codec A) → ((i : ℕ) → Lawful g (item i)) → (m i n : ℕ) → Lawful g (array z item m i n)
 unfolding array

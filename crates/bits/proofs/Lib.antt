@@ -2,8 +2,9 @@ pub mod Numbering
 pub mod Numbers
 pub mod Laws
 pub mod Leaves
-pub mod CodeLaws
 pub mod Storing
+pub mod Widths
+pub mod CodeLaws
 pub mod Pieces
 pub mod Places
 pub mod Words
@@ -13,3 +14,5 @@ pub mod Signs
 pub mod Reading
 pub mod Bounds
 pub mod RoundTrip
+pub mod Forgetting
+pub mod Checks

@@ -5,8 +5,8 @@ use mathlib.Core.Bool.{Bool, true, false}
 use Prim.Native.Nat.{ℕ, _-_, max}
 use native.Mathlib.Omega.{arith}
 use lib.ListN.{length}
-use Rattle.bits.specs.Bits.{Bits, from, end}
-use Rattle.bits.specs.Codec.{Codec, Got, got, stop, andThen, choose, absent, inferred, inferredFlag, allowed, checked, via, recode, merged, _▷_, nil}
+use Rattle.bits.specs.Bits.{Bits, fromBits, from, end}
+use Rattle.bits.specs.Codec.{Codec, Got, got, stop, andThen, takeBits, fieldAs, f, choose, absent, inferred, inferredFlag, allowed, checked, via, merged, _▷_, nil}
 use Rattle.bits.specs.Answers.{Result, value, refused, why, made, Form, found, moved, Reads, Said, said, Reading, reading, Completes, completes}
 use Rattle.bits.specs.declared.answer.Cursor.{Cursor}
 use Rattle.bits.specs.declared.answer.Refusal.{Refusal}
@@ -89,13 +89,19 @@ module _ {A B C : Type 0} (to : B → A) (h : A → B) (t : Codec A) {make : B �
   unfolding via
   struct (reading g) = reading (record { finds = fuse (t .dec (from xs (c .at))) h make ∙ g .finds; moves = g .moves })
 
-  pub recoded : Reading (λ a. make (h a)) t xs c r → Reading make (recode to h t) xs c r
-  unfolding recode
-  recoded (reading g) = reading (record { finds = fuse (t .dec (from xs (c .at))) h make ∙ g .finds; moves = g .moves })
-
   pub one-of : Reading (λ a. make (h a)) t xs c r → Reading make (merged to h t) xs c r
   unfolding merged
   one-of (reading g) = reading (record { finds = fuse (t .dec (from xs (c .at))) h make ∙ g .finds; moves = g .moves })
+
+-- n bits, whose number codes a value
+module _ {B C : Type 0} (n : ℕ) (to : B → ℕ) (h : ℕ → B) (refusal : B → Refusal) {make : B → C} {xs : List ℕ} {c : Cursor} {r : Result C} where
+  pub field-as : Reading (λ v. make (h v)) (f n 0 0) xs c r → Reading make (fieldAs n to h refusal) xs c r
+  unfolding f
+  field-as (reading g) = reading (record { finds = go (takeBits n (from xs (c .at))) ∙ g .finds; moves = g .moves })
+    where
+      go : (t : Got Bits) → andThen (andThen t (λ xs rest. got (h (fromBits xs)) rest)) (λ b rest. got (make b) rest) ≡ andThen (andThen t (λ xs rest. got (fromBits xs) rest)) (λ v rest. got (make (h v)) rest)
+      go (got bs rest) = refl
+      go (stop q) = refl
 
 -- a step: its value, and what comes behind it; its refusal; the last one
 module _ {G A B C : Type 0} {v : Form G A} (t : Codec A) (k : A → Codec B) {make : A × B → C} {xs : List ℕ} {p : Cursor} {g : G} where

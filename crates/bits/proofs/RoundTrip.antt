@@ -8,8 +8,8 @@ use lib.IntN.{ℤ}
 use lib.ListN.{length, take, length-append}
 use lib.Seq.{take-at}
 use Rattle.bits.specs.Bits.{Bits, from, end, limit}
-use Rattle.bits.specs.Walk.{field, mark, Out, End, done, refused, wrote, run, forward, ends, stepOf, Walked, walked}
-use Rattle.bits.specs.Codec.{Codec, f, flag, recode}
+use Rattle.bits.specs.Walk.{unsigned, mark, Out, End, done, refused, wrote, run, forward, ends, stepOf, Walked, walked}
+use Rattle.bits.specs.Codec.{Codec, f, flag}
 use Rattle.bits.specs.Codes.{uvlc, su, leb128}
 use Rattle.bits.specs.Lawful.{Grade, strict, Lawful, Least}
 use Rattle.bits.specs.Answers.{value, Form, made, found, moved, Reads, Said, said}
@@ -101,12 +101,12 @@ unfolding f
 f-one n e i v bs s = s
 
 su-one : (n e i : ℕ) (z : ℤ) (bs : Bits) → su n e i .spells z bs → run (su n e i .enc z) ≡ wrote bs
-unfolding su recode f
+unfolding su
 su-one n e i z bs s = s
 
 -- The four codes, in the words of their functions' contracts: a writer that answered `Next d` with d in the bytes, and the reader at the place where it began.
 module _ {c d : Cursor} {xs ys : List ℕ} (room : d .at ≤ end xs) (near : d .at < limit) where
-  pub f-reads-back : (n e i v : ℕ) {h : GotNumber} → n ≤ 32 → Walked (field n v e i) c xs (Next d) ys → Said form.number (f (min n 32) 0 0 .dec) ys c h → h ≡ N.Value v d
+  pub f-reads-back : (n e i v : ℕ) {h : GotNumber} → n ≤ 32 → Walked (unsigned n v e i) c xs (Next d) ys → Said form.number (f (min n 32) 0 0 .dec) ys c h → h ≡ N.Value v d
   unfolding f
   f-reads-back n e i v l w s = let m : min n 32 ≡ n = omega arith in reads-back (f n e i) (f-law {g = strict} n e i) v w room near (rw m at s)
 
@@ -115,7 +115,7 @@ module _ {c d : Cursor} {xs ys : List ℕ} (room : d .at ≤ end xs) (near : d .
   flag-reads-back b w s = reads-back flag (flag-law {g = strict}) b w room near s
 
   pub su-reads-back : (n e i : ℕ) (z : ℤ) {h : GotSigned} → Walked (su (min n 32) e i .enc z) c xs (Next d) ys → Said form.signed (su (min n 32) 0 0 .dec) ys c h → h ≡ I.Value z d
-  unfolding su recode f
+  unfolding su
   su-reads-back n e i z w s = reads-back (su (min n 32) e i) (su-law {g = strict} (min n 32) e i) z w room near s
 
   pub uvlc-reads-back : (e i v : ℕ) {h : GotNumber} → Walked (uvlc e i .enc v) c xs (Next d) ys → Said form.number (uvlc e i .dec) ys c h → h ≡ N.Value v d
@@ -127,7 +127,7 @@ module _ {c d : Cursor} {xs ys : List ℕ} (room : d .at ≤ end xs) (near : d .
 
 -- A reader that answered a value and d, and the writer of that value at the place where it began.
 module _ {c d : Cursor} {xs ys : List ℕ} {s : Step} (near : d .at < limit) where
-  pub f-writes-back : (n e i v : ℕ) {h : GotNumber} → n ≤ 32 → Said form.number (f (min n 32) 0 0 .dec) xs c h → h ≡ N.Value v d → Walked (field n v e i) c xs s ys → (s ≡ Next d) × (ys ≡ xs)
+  pub f-writes-back : (n e i v : ℕ) {h : GotNumber} → n ≤ 32 → Said form.number (f (min n 32) 0 0 .dec) xs c h → h ≡ N.Value v d → Walked (unsigned n v e i) c xs s ys → (s ≡ Next d) × (ys ≡ xs)
   unfolding f
   f-writes-back n e i v l r q w = let m : min n 32 ≡ n = omega arith in writes-back (f n e i) (f-law {g = strict} n e i) (f-one n e i) (rw m at r) q near w
 
@@ -137,7 +137,7 @@ module _ {c d : Cursor} {xs ys : List ℕ} {s : Step} (near : d .at < limit) whe
 
   pub su-writes-back : (n e i : ℕ) (z : ℤ) {h : GotSigned}
       → Said form.signed (su (min n 32) 0 0 .dec) xs c h → h ≡ I.Value z d → Walked (su (min n 32) e i .enc z) c xs s ys → (s ≡ Next d) × (ys ≡ xs)
-  unfolding su recode f
+  unfolding su
   su-writes-back n e i z r q w = writes-back (su (min n 32) e i) (su-law {g = strict} (min n 32) e i) (su-one (min n 32) e i) r q near w
 
   pub uvlc-writes-back : (e i v : ℕ) {h : GotNumber} → Said form.number (uvlc e i .dec) xs c h → h ≡ N.Value v d → Walked (uvlc e i .enc v) c xs s ys → (s ≡ Next d) × (ys ≡ xs)

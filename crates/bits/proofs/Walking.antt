@@ -13,10 +13,10 @@ use Rattle.bits.specs.Bits.{Bits, toBits, bitAt, setBit, put, limit}
 use Rattle.bits.specs.Walk.{Walk, none, field, mark, demand, refuse, either, _⊕_, End, done, refused, Out, wrote, refuses, after, join, run, forward, ends, stepOf, Walked, walked, bound}
 use Rattle.bits.specs.declared.answer.Cursor.{Cursor}
 use Rattle.bits.specs.declared.answer.Refusal.{Refusal}
-use Rattle.bits.specs.declared.answer.Refusal.the-variants.{Unfit}
 use Rattle.bits.specs.declared.answer.Step.{Step}
 use Rattle.bits.specs.declared.answer.Step.the-variants.{Next, Refused}
 use Rattle.bits.proofs.Numbers.{length-toBits}
+use Rattle.bits.proofs.Leaves.{field-fits}
 use Rattle.bits.proofs.Storing.{put-append, put-far, length-put, below-or}
 
 -- the two equations
@@ -199,34 +199,46 @@ module _ {v w : Walk} {c : Cursor} {xs zs : List ℕ} {t : Step} {a b : Bool} wh
   no-by p h g = no (sym p ∙ h) g
 
 -- One field
-pub field-done : (n v e i : ℕ) (c : Cursor) (xs ys : List ℕ) (k : ℕ) (t : Bool) → t ≡ ltb v (2 ^ n) → t ≡ true → ys ≡ put xs (c .at) (toBits n v) → k ≡ forward (c .at) n → Walked (field n v e i) c xs (Next (record { at = k })) ys
+pub field-done : (n v : ℕ) (r : Refusal) (c : Cursor) (xs ys : List ℕ) (k : ℕ) (t : Bool) → t ≡ ltb v (2 ^ n) → t ≡ true → ys ≡ put xs (c .at) (toBits n v) → k ≡ forward (c .at) n → Walked (field n v r) c xs (Next (record { at = k })) ys
 unfolding run stepOf
-field-done n v e i c xs ys k t q h b a = walked (rw (← q, h) (rw (a, length-toBits))) (rw (← q, h) b)
+field-done n v r c xs ys k t q h b a = walked (rw (← q, h) (rw (a, length-toBits))) (rw (← q, h) b)
 
-pub field-refused : (n v e i : ℕ) (c : Cursor) (xs : List ℕ) (t : Bool) → t ≡ ltb v (2 ^ n) → t ≡ false → Walked (field n v e i) c xs (Refused (Unfit e i)) xs
+pub field-refused : (n v : ℕ) (r : Refusal) (c : Cursor) (xs : List ℕ) (t : Bool) → t ≡ ltb v (2 ^ n) → t ≡ false → Walked (field n v r) c xs (Refused r) xs
 unfolding run stepOf put
-field-refused n v e i c xs t q h = walked (rw (← q, h) refl) (rw (← q, h) refl)
+field-refused n v r c xs t q h = walked (rw (← q, h) refl) (rw (← q, h) refl)
 
 pub mark-done : (b : Bool) (c : Cursor) (xs : List ℕ) {ys : List ℕ} {k : ℕ} → ys ≡ setBit xs (c .at) b → k ≡ forward (c .at) 1 → Walked (mark b) c xs (Next (record { at = k })) ys
 unfolding run stepOf put
 mark-done b c xs h a = walked (rw a) h
 
 -- a flag is a field of one bit
-mark-run : (b : Bool) → run (field 1 (boolByte b) 0 0) ≡ run (mark b)
+mark-run : (b : Bool) (r : Refusal) → run (field 1 (boolByte b) r) ≡ run (mark b)
 unfolding run toBits bitAt
-mark-run true = refl
-mark-run false = refl
+mark-run true r = refl
+mark-run false r = refl
 
-pub mark-field : {b : Bool} {c : Cursor} {xs ys : List ℕ} {u : Step} → Walked (field 1 (boolByte b) 0 0) c xs u ys → Walked (mark b) c xs u ys
-mark-field {b} g = as-run (mark-run b) g
+pub mark-field : {b : Bool} {r : Refusal} {c : Cursor} {xs ys : List ℕ} {u : Step} → Walked (field 1 (boolByte b) r) c xs u ys → Walked (mark b) c xs u ys
+mark-field {b} {r} g = as-run (mark-run b r) g
 
 -- a zero is a flag that is not set
-pub zero-mark : {c : Cursor} {xs ys : List ℕ} {u : Step} → Walked (mark false) c xs u ys → Walked (field 1 0 0 0) c xs u ys
-zero-mark g = as-run (sym (mark-run false)) g
+pub zero-mark : {r : Refusal} {c : Cursor} {xs ys : List ℕ} {u : Step} → Walked (mark false) c xs u ys → Walked (field 1 0 r) c xs u ys
+zero-mark {r} g = as-run (sym (mark-run false r)) g
 
 -- One answer, and one content of the bytes
 pub only : {w : Walk} {c : Cursor} {xs ys zs : List ℕ} {s t : Step} → Walked w c xs s ys → Walked w c xs t zs → (s ≡ t) × (ys ≡ zs)
 only (walked a b) (walked e f) = (a ∙ sym e, b ∙ sym f)
+
+-- A walk that went on has written its bits; a field, a number that it holds
+pub went : {w : Walk} {c d : Cursor} {xs ys : List ℕ} {s : Step} → Walked w c xs s ys → s ≡ Next d → run w ≡ wrote (run w .bits)
+unfolding stepOf
+went {w} {c} (walked p b) e = go (run w .end) refl
+  where
+    go : (k : End) → run w .end ≡ k → run w ≡ wrote (run w .bits)
+    go done h = λ i. record { bits = run w .bits; end = h i }
+    go (refused r) h = absurd (next-refused (sym e ∙ p ∙ ap (λ (k : End). ends k (forward (c .at) (length (run w .bits)))) h))
+
+pub field-went : {n v : ℕ} {r : Refusal} {c d : Cursor} {xs ys : List ℕ} {s : Step} → Walked (field n v r) c xs s ys → s ≡ Next d → v < 2 ^ n
+field-went {n} {v} {r} g e = field-fits n v r _ (went g e)
 
 -- The most bits that a walk can write
 bound-cond : (t : Bool) (o p : Out) {n m : ℕ} → length (o .bits) ≤ n → length (p .bits) ≤ m → length (cond t o p .bits) ≤ max n m
@@ -240,7 +252,7 @@ bound-join (refused r) bs p = omega arith
 pub bounded : (w : Walk) → length (run w .bits) ≤ bound w
 unfolding run bound join
 bounded none = omega arith
-bounded (field n v e i) = omega (arith, bound-cond (ltb v (2 ^ n)) (wrote (toBits n v)) (refuses (Unfit e i)) {n = n} {m = 0} (omega (arith, length-toBits n v)) (omega arith))
+bounded (field n v r) = omega (arith, bound-cond (ltb v (2 ^ n)) (wrote (toBits n v)) (refuses r) {n = n} {m = 0} (omega (arith, length-toBits n v)) (omega arith))
 bounded (mark b) = omega arith
 bounded (demand t r) = omega (arith, bound-cond t (wrote []) (refuses r) {n = 0} {m = 0} (omega arith) (omega arith))
 bounded (refuse r) = omega arith

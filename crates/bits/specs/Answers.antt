@@ -23,12 +23,12 @@ use Rattle.bits.specs.declared.answer.GotSize.the-variants as Z
 
 -- Document 01, "Numbers returned": each refusal's number, and the values that it carries.
 abbrev pub plain : ℕ → Numbered
-plain n = record { number = n; first = 0; second = 0 }
+plain n = record { number = n; first = 0; second = 0; third = 0 }
 
 abbrev pub numbered : Refusal → Numbered
-numbered (Inconsistent e i) = record { number = 1; first = e; second = i }
-numbered (Unfit e i) = record { number = 2; first = e; second = i }
-numbered (Short n) = record { number = 3; first = n; second = 0 }
+numbered (Inconsistent e i) = record { number = 1; first = e; second = i; third = 0 }
+numbered (Unfit e i w) = record { number = 2; first = e; second = i; third = w }
+numbered (Short n) = record { number = 3; first = n; second = 0; third = 0 }
 numbered Ends = plain 4
 numbered Reserved = plain 5
 numbered Size = plain 6

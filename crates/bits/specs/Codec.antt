@@ -6,9 +6,10 @@ use mathlib.Core.Bool.{Bool, true, false, cond, not}
 use Prim.Native.Nat.{ℕ, zero, suc, _+_}
 use lib.Dec.{eqb, ltb}
 use Rattle.bits.specs.Bits.{Bits, fromBits}
-use Rattle.bits.specs.Walk.{Walk, none, field, mark, demand, either, _⊕_, wrote, run}
+use Rattle.bits.specs.Widths.{bitLength}
+use Rattle.bits.specs.Walk.{Walk, none, field, unsigned, mark, demand, either, _⊕_, wrote, run}
 use Rattle.bits.specs.declared.answer.Refusal.{Refusal}
-use Rattle.bits.specs.declared.answer.Refusal.the-variants.{Inconsistent, Ends, Reserved}
+use Rattle.bits.specs.declared.answer.Refusal.the-variants.{Inconsistent, Unfit, Ends, Reserved}
 
 -- what reading finds: a value and the bits behind it, or a refusal
 pub data Got (A : Type 0) : Type 0 where
@@ -33,14 +34,19 @@ pub record Codec (A : Type 0) : Type 1 where
 abbrev pub single : {A : Type 0} → (A → Walk) → (Bits → Got A) → Codec A
 single e d = record { enc = e; dec = d; coded = λ a. a; spells = λ a bs. run (e a) ≡ wrote bs }
 
--- f(n), as element e, index i
+-- the next n bits
 unfoldable pub takeBits : ℕ → Bits → Got Bits
 takeBits zero bs = got [] bs
 takeBits (suc n) [] = stop Ends
 takeBits (suc n) (b ∷ bs) = andThen (takeBits n bs) (λ xs rest. got (b ∷ xs) rest)
 
+-- n bits of a value: a number that codes it, the value that a number codes, and the refusal where the n bits do not hold its number
+abbrev pub fieldAs : {A : Type 0} → ℕ → (A → ℕ) → (ℕ → A) → (A → Refusal) → Codec A
+fieldAs n to from r = single (λ a. field n (to a) (r a)) (λ bs. andThen (takeBits n bs) (λ xs rest. got (from (fromBits xs)) rest))
+
+-- f(n), as element e, index i
 unfoldable pub f : ℕ → ℕ → ℕ → Codec ℕ
-f n e i = single (λ v. field n v e i) (λ bs. andThen (takeBits n bs) (λ xs rest. got (fromBits xs) rest))
+f n e i = fieldAs n (λ v. v) (λ v. v) (λ v. Unfit e i (bitLength v))
 
 -- one bit, a flag
 abbrev pub takeFlag : Bits → Got Bool
@@ -130,15 +136,6 @@ checked test r c = record {
   spells = λ a bs. (test a ≡ true) × c .spells a bs;
 }
 
--- a number written in another way, all of it coded
-unfoldable pub recode : {A B : Type 0} → (B → A) → (A → B) → Codec A → Codec B
-recode to from c = record {
-  enc = λ b. c .enc (to b);
-  dec = λ bs. andThen (c .dec bs) (λ a rest. got (from a) rest);
-  coded = λ b. b;
-  spells = λ b bs. c .spells (to b) bs;
-}
-
 -- a number that several values of the table stand for: each spells it, and one of them is written
 unfoldable pub merged : {A B : Type 0} → (B → A) → (A → B) → Codec A → Codec B
 merged {A} to from c = record {
@@ -160,7 +157,7 @@ abbrev pub readZeros : ℕ → Bits → Got Nil
 readZeros n bs = andThen (takeBits n bs) (λ xs rest. cond (eqb (fromBits xs) 0) (got nil rest) (stop Reserved))
 
 unfoldable pub zeros : ℕ → Codec Nil
-zeros n = single (λ _. field n 0 0 0) (readZeros n)
+zeros n = single (λ _. unsigned n 0 0 0) (readZeros n)
 
 -- the items from place i on of an array that has m more places; those below n are coded, the others are z
 abbrev pub uncons : {A : Type 0} → A → List A → A × List A

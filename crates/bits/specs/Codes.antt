@@ -5,14 +5,10 @@ use Prim.Native.Nat.{ℕ, zero, suc, _+_, _-_, _*_, _^_, _/_, _%_}
 use lib.Dec.{ltb, leb}
 use lib.IntN.{ℤ, pos, negsuc}
 use Rattle.bits.specs.Bits.{Bits}
-use Rattle.bits.specs.Walk.{field, demand, refuse, _⊕_}
-use Rattle.bits.specs.Codec.{Codec, Got, got, stop, andThen, single, f, absent, choose, _▷_, recode, merged}
+use Rattle.bits.specs.Widths.{widthUpTo, bitLength, signedLength}
+use Rattle.bits.specs.Walk.{unsigned, demand, refuse, _⊕_}
+use Rattle.bits.specs.Codec.{Codec, Got, got, stop, andThen, single, fieldAs, f, absent, choose, _▷_, merged}
 use Rattle.bits.specs.declared.answer.Refusal.the-variants.{Inconsistent, Unfit, Ends, Size}
-
--- the place of the highest one of w, up to k
-unfoldable pub topBit : ℕ → ℕ → ℕ
-topBit zero w = zero
-topBit (suc k) w = cond (leb (2 ^ suc k) w) (suc k) (topBit k w)
 
 -- the zeros before the next one, at most m: reading one more is refusal 1
 unfoldable pub unary : ℕ → ℕ → ℕ → Bits → Got ℕ
@@ -21,12 +17,12 @@ unary m e i (true ∷ bs) = got 0 (true ∷ bs)
 unary zero e i (false ∷ bs) = stop (Inconsistent e i)
 unary (suc m) e i (false ∷ bs) = andThen (unary m e i bs) (λ z rest. got (suc z) rest)
 
--- uvlc: with L the bit length of v + 1, one more than the place of its highest one, L - 1 zeros and then v + 1 in L bits.
+-- uvlc: with L the bit length of v + 1, L - 1 zeros and then v + 1 in L bits. (What is written has an L of at most 32; up to 33 it is for every v.)
 -- Difference (docs/DIFFERENCES.md, rows 6 and 8): the standard codes 2^32 - 1 as 32 zeros and a one, and reads 32 zeros as 2^32 - 1. Document 01
 -- refuses both; the crate writes 32 zeros and no one.
 unfoldable pub uvlc : ℕ → ℕ → Codec ℕ
 uvlc e i = single
-    (λ v. let L = topBit 32 (v + 1) + 1 in demand (ltb v (2 ^ 32 - 1)) (Unfit e i) ⊕ field (L - 1) 0 0 0 ⊕ field L (v + 1) e i)
+    (λ v. let L = widthUpTo 33 (v + 1) in demand (ltb v (2 ^ 32 - 1)) (Unfit e i (bitLength (v + 1))) ⊕ unsigned (L - 1) 0 0 0 ⊕ unsigned L (v + 1) e i)
     (λ bs. andThen (unary 31 e i bs) (λ z rest. andThen (f (z + 1) e i .dec rest) (λ w end. got (w - 1) end)))
 
 -- su(n): two's complement in n bits; a number out of range goes to 2^n, which no n bits hold. (`pos m` is m, and `negsuc m` is -(m + 1).)
@@ -38,7 +34,7 @@ abbrev pub su-in : ℕ → ℕ → ℤ
 su-in n v = cond (ltb (v * 2) (2 ^ n)) (pos v) (negsuc (2 ^ n - suc v))
 
 unfoldable pub su : ℕ → ℕ → ℕ → Codec ℤ
-su n e i = recode (su-out n) (su-in n) (f n e i)
+su n e i = fieldAs n (su-out n) (su-in n) (λ z. Unfit e i (signedLength z))
 
 -- leb128: seven bits a byte, the low ones first; a byte of 128 and more goes on
 abbrev pub leb-out : ℕ → ℕ × ℕ

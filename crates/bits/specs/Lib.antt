@@ -1,6 +1,8 @@
 pub mod Elements
 pub mod Bits
+pub mod Widths
 pub mod Walk
+pub mod Checks
 pub mod Codec
 pub mod Codes
 pub mod Lawful

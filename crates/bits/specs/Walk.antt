@@ -7,6 +7,7 @@ use Prim.Native.Nat.{ℕ, _+_, _^_, min, max}
 use lib.ListN.{length}
 use lib.Dec.{ltb}
 use Rattle.bits.specs.Bits.{Bits, toBits, put, limit}
+use Rattle.bits.specs.Widths.{bitLength}
 use Rattle.bits.specs.declared.answer.Cursor.{Cursor}
 use Rattle.bits.specs.declared.answer.Refusal.{Refusal}
 use Rattle.bits.specs.declared.answer.Refusal.the-variants.{Unfit}
@@ -17,8 +18,8 @@ infixr 60 _⊕_
 pub data Walk : Type 0 where
   -- nothing is written
   none : Walk
-  -- f(n) of a value; the element and index that its refusal names
-  field : (n value element index : ℕ) → Walk
+  -- n bits of a number, else the refusal
+  field : (n value : ℕ) → Refusal → Walk
   -- f(1) of a flag
   mark : Bool → Walk
   -- nothing is written, and a test must hold, else the refusal
@@ -28,6 +29,10 @@ pub data Walk : Type 0 where
   either : Bool → Walk → Walk → Walk
   -- one walk and then another: the first refusal ends both
   _⊕_ : Walk → Walk → Walk
+
+-- f(n) of a number, whose refusal names the element, the index and the least width that would hold the number
+abbrev pub unsigned : (n value element index : ℕ) → Walk
+unsigned n v e i = field n v (Unfit e i (bitLength v))
 
 -- how a walk ended: at its end, or at the first element that earned a refusal
 pub data End : Type 0 where
@@ -55,7 +60,7 @@ join o p = after (o .end) (o .bits) p
 -- what a walk comes to
 unfoldable pub run : Walk → Out
 run none = wrote []
-run (field n v e i) = cond (ltb v (2 ^ n)) (wrote (toBits n v)) (refuses (Unfit e i))
+run (field n v r) = cond (ltb v (2 ^ n)) (wrote (toBits n v)) (refuses r)
 run (mark b) = wrote (b ∷ [])
 run (demand t r) = cond t (wrote []) (refuses r)
 run (refuse r) = refuses r
@@ -81,7 +86,7 @@ pub data Walked (w : Walk) (c : Cursor) (xs : List ℕ) (s : Step) (ys : List �
 -- the most bits that a walk can write, whatever its flags
 unfoldable pub bound : Walk → ℕ
 bound none = 0
-bound (field n v e i) = n
+bound (field n v r) = n
 bound (mark b) = 1
 bound (demand t r) = 0
 bound (refuse r) = 0

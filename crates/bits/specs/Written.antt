@@ -9,7 +9,7 @@ use Rattle.bits.specs.declared.answer.Refusal.{Refusal}
 
 -- Document 01, "Numbers returned": 0 and the bytes written, or the end bit of a part; or the refusal's.
 abbrev pub answerNumbers : Answer → Numbered
-answerNumbers (Done n) = record { number = 0; first = n; second = 0 }
+answerNumbers (Done n) = record { number = 0; first = n; second = 0; third = 0 }
 answerNumbers (Refused r) = numbered r
 
 -- the answer, and what the slice holds

@@ -15,8 +15,8 @@ pub struct Cursor {
 pub enum Refusal {
     // An inconsistent element, or a value that the rules forbid: element, index.
     Inconsistent(u8, u8),
-    // A value that does not fit its field: element, index.
-    Unfit(u8, u8),
+    // A value that does not fit its field: element, index, and the least width that would hold it; 0 where no width helps.
+    Unfit(u8, u8, u8),
     // A buffer that is too short: the least length that is enough.
     Short(u32),
     // The input ends inside header, size or body.
@@ -44,6 +44,7 @@ pub struct Numbered {
     pub number: u32,
     pub first: u32,
     pub second: u32,
+    pub third: u32,
 }
 
 // A step with no value of its own: every step of a writer.
@@ -81,16 +82,19 @@ pub fn numbers(r: Refusal) -> Numbered
             number: 1,
             first: element as u32,
             second: index as u32,
+            third: 0,
         },
-        Refusal::Unfit(element, index) => Numbered {
+        Refusal::Unfit(element, index, width) => Numbered {
             number: 2,
             first: element as u32,
             second: index as u32,
+            third: width as u32,
         },
         Refusal::Short(length) => Numbered {
             number: 3,
             first: length,
             second: 0,
+            third: 0,
         },
         Refusal::Ends => plain(4),
         Refusal::Reserved => plain(5),
@@ -108,6 +112,7 @@ pub fn answer_numbers(a: Answer) -> Numbered
             number: 0,
             first: value,
             second: 0,
+            third: 0,
         },
         Answer::Refused(r) => numbers(r),
     }
@@ -120,6 +125,7 @@ fn plain(number: u32) -> Numbered
         number,
         first: 0,
         second: 0,
+        third: 0,
     }
 }
 

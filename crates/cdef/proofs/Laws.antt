@@ -6,11 +6,10 @@ use Prim.Native.Nat.{ℕ, _+_, _-_, _<_}
 use native.Mathlib.Omega.{arith}
 use lib.Dec.{eqb, ltb}
 use borrow.Author.Tests.{le-ltb, ltb-false, eqb-true}
-use Rattle.bits.specs.Codec.{f, recode}
 use Rattle.bits.specs.Lawful.{loose, Lawful}
-use Rattle.bits.specs.declared.answer.Refusal.the-variants.{Inconsistent}
-use Rattle.bits.proofs.Laws.{via-law, recode-law, checked-law}
-use Rattle.bits.proofs.Leaves.{codec-laws, f-law, f-fits, array-law}
+use Rattle.bits.specs.declared.answer.Refusal.the-variants.{Inconsistent, Unfit}
+use Rattle.bits.proofs.Laws.{via-law, checked-law}
+use Rattle.bits.proofs.Leaves.{codec-laws, field-fits, fieldAs-law, array-law}
 use Rattle.parts.specs.Codes.{zip, firsts, seconds}
 use Rattle.cdef.specs.Cdef.{damping-out, damping-in, damping, swapped, secondary, Strengths, none, strength, strengths, each-strength, on-table, no-strength, no-place, no-strengths, off-table, cdef-on, cdef-off, cdef-params}
 use Rattle.cdef.specs.declared.record.CdefContext.{CdefContext}
@@ -28,10 +27,8 @@ damping-there v h = go (ltb v 3) refl h
     go false e h = omega (arith, ltb-false v 3 e)
 
 damping-law : Lawful loose damping
-unfolding damping f
-damping-law = recode-law damping-out damping-in (f-law 2 cdef-damping 0)
-    (λ v bs s. damping-back v)
-    (λ v bs s. damping-there v (f-fits 2 cdef-damping 0 (damping-out v) bs s))
+unfolding damping
+damping-law = fieldAs-law 2 damping-out damping-in (λ _. Unfit cdef-damping 0 0) (λ v h. damping-back v) damping-there
 
 swapped-back : (v : ℕ) → swapped (swapped v) ≡ v
 swapped-back v = go (eqb v 4) refl (eqb v 3) refl
@@ -50,10 +47,10 @@ not-three v h = go (eqb v 3) refl
     go false e = refl
 
 secondary-law : (e i : ℕ) → Lawful loose (secondary e i)
-unfolding secondary recode f
+unfolding secondary
 secondary-law e i = checked-law (λ v. not (eqb v 3)) (Inconsistent e i)
-    (recode-law swapped swapped (f-law 2 e i) (λ v bs s. swapped-back v) (λ v bs s. swapped-back v))
-    (λ v bs s. not-three v (f-fits 2 e i (swapped v) bs s))
+    (fieldAs-law 2 swapped swapped (λ _. Unfit e i 0) (λ v h. swapped-back v) (λ v h. swapped-back v))
+    (λ v bs s. not-three v (field-fits 2 (swapped v) _ bs s))
     (λ v. refl)
 
 strength-law : (p s i : ℕ) → Lawful loose (strength p s i)

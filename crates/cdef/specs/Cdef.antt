@@ -3,14 +3,14 @@ use mathlib.Core.List.{List}
 use mathlib.Core.Bool.{cond, not, _||_}
 use Prim.Native.Nat.{ℕ, _+_, _-_, _^_}
 use lib.Dec.{eqb, ltb}
-use Rattle.bits.specs.Codec.{Codec, f, absent, inferred, choose, checked, recode, via, array, _▷_}
+use Rattle.bits.specs.Codec.{Codec, fieldAs, f, absent, inferred, choose, checked, via, array, _▷_}
 use Rattle.bits.specs.Elements.{cdef-bits, cdef-y-pri-strength, cdef-y-sec-strength, cdef-uv-pri-strength, cdef-uv-sec-strength, cdef-damping}
-use Rattle.bits.specs.declared.answer.Refusal.the-variants.{Inconsistent}
+use Rattle.bits.specs.declared.answer.Refusal.the-variants.{Inconsistent, Unfit}
 use Rattle.parts.specs.Codes.{zip, firsts, seconds}
 use Rattle.cdef.specs.declared.record.CdefParams.{CdefParams}
 use Rattle.cdef.specs.declared.record.CdefContext.{CdefContext}
 
--- the damping is 3 to 6, and coded less 3; a smaller one goes to 4, which two bits do not hold
+-- the damping is 3 to 6, and coded less 3; a smaller one goes to 4, which two bits do not hold. No width helps, and the refusal says 0.
 abbrev pub damping-out : ℕ → ℕ
 damping-out v = cond (ltb v 3) 4 (v - 3)
 
@@ -18,14 +18,14 @@ abbrev pub damping-in : ℕ → ℕ
 damping-in v = v + 3
 
 unfoldable pub damping : Codec ℕ
-damping = recode damping-out damping-in (f 2 cdef-damping 0)
+damping = fieldAs 2 damping-out damping-in (λ _. Unfit cdef-damping 0 0)
 
--- a secondary strength of 4 is coded as 3, and 3 is forbidden: the two change places
+-- a secondary strength of 4 is coded as 3, and 3 is forbidden: the two change places. No width helps here either.
 abbrev pub swapped : ℕ → ℕ
 swapped v = cond (eqb v 4) 3 (cond (eqb v 3) 4 v)
 
 unfoldable pub secondary : ℕ → ℕ → Codec ℕ
-secondary e i = checked (λ v. not (eqb v 3)) (Inconsistent e i) (recode swapped swapped (f 2 e i))
+secondary e i = checked (λ v. not (eqb v 3)) (Inconsistent e i) (fieldAs 2 swapped swapped (λ _. Unfit e i 0))
 
 -- primary and secondary, for luma and for chroma
 abbrev pub Strength : Type 0

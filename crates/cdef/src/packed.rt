@@ -2,7 +2,7 @@
 use crate::record::CdefParams;
 use bits::answer::*;
 use bits::element::*;
-use writer::f;
+use writer::*;
 ghost use mathlib.Core.Path.{_≡_};
 ghost use Prim.Native.Nat.{_<_};
 ghost use lib.ListN.{getD};
@@ -16,10 +16,11 @@ fn secondary(out: &mut [u8], c: Cursor, v: u32, element: u8, i: u8) -> Step
     if v == 3 {
         return Step::Refused(Refusal::Inconsistent(element, i));
     }
+    let refusal = Refusal::Unfit(element, i, 0);
     if v == 4 {
-        return f(out, c, 2, 3, element, i);
+        return field(out, c, 2, 3, refusal);
     }
-    f(out, c, 2, v, element, i)
+    field(out, c, 2, v, refusal)
 }
 
 // A primary and a secondary strength, each with its element.

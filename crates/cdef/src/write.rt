@@ -46,7 +46,10 @@ fn cdef_on(out: &mut [u8], c: Cursor, planes: u32, p: CdefParams) -> Step
     ensures { λ s. ⌜ Walked (cdef-on planes .enc p) c (now (out .entry)) s (now (out .exit)) ⌝ }
 {
     if p.cdef_damping < 3 {
-        return Step::Refused(Refusal::Unfit(CDEF_DAMPING, 0));
+        return Step::Refused(Refusal::Unfit(CDEF_DAMPING, 0, 0));
+    }
+    if 6 < p.cdef_damping {
+        return Step::Refused(Refusal::Unfit(CDEF_DAMPING, 0, 0));
     }
     let s = pair(
         out,

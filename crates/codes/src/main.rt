@@ -86,6 +86,10 @@ fn refusal(r: Refusal) {
     decimal(n.first as u64);
     text(b", ");
     decimal(n.second as u64);
+    if n.number == 2 {
+        text(b", ");
+        decimal(n.third as u64);
+    }
 }
 
 fn number(g: GotNumber) {
@@ -165,10 +169,10 @@ fn leb128(value: u32) {
     size(reader::leb128(&out, start()));
 }
 
-// A delta of eight bits, and a segment value of sixteen.
-fn narrow(delta: i8, segment: i16) {
+// A delta and a segment value of sixteen bits.
+fn narrow(delta: i16, segment: i16) {
     let mut out = [0u8; 8];
-    let s = writer::su8(&mut out, start(), 7, delta, DELTA_Q_Y_DC, 0);
+    let s = writer::su16(&mut out, start(), 7, delta, DELTA_Q_Y_DC, 0);
     let Step::Next(c) = s else {
         return refusal(bits::answer::why_step(s));
     };

@@ -12,7 +12,8 @@ use borrow.Author.Tests.{ltb-true, ltb-false}
 use mir.Syntax.{w32}
 use mir.Val.{SFits, toZ, ofZ, boolByte}
 use mir.Facts.{toZ-ofZ}
-use Rattle.bits.specs.Codec.{f, recode}
+use Rattle.bits.specs.Bits.{fromBits}
+use Rattle.bits.specs.Codec.{takeBits, f}
 use Rattle.bits.specs.Codec as bits
 use Rattle.bits.specs.Codes.{su, su-in}
 use Rattle.bits.specs.Answers.{why, Said, signed, number, flag}
@@ -25,7 +26,7 @@ use Rattle.bits.specs.declared.answer.GotNumber.{GotNumber}
 use Rattle.bits.specs.declared.answer.GotNumber.the-variants as N
 use Rattle.bits.specs.declared.answer.Step.the-variants.{Next, Refused}
 use Rattle.bits.specs.declared.answer.Refusal.{Refusal}
-use Rattle.bits.proofs.Bounds.{f-small}
+use Rattle.bits.proofs.Bounds.{bits-small, f-small}
 use Rattle.bits.proofs.Reading.{is}
 use Rattle.fill.specs.Fills.{made, same, natural, signedBit, Fills}
 use Rattle.fill.proofs.Filling.{got-made, got-not, was}
@@ -39,8 +40,8 @@ in-fits n v l h = record { sfits = go (ltb (v * 2) (2 ^ n)) refl }
 
 module _ (n : ℕ) {xs : List ℕ} {c q : Cursor} {g : GotSigned} {x : ℤ} where
   su-fits : Said signed (su (min n 32) 0 0 .dec) xs c g → g ≡ I.Value x q → SFits w32 x
-  unfolding su recode
-  su-fits s e = let w = was (su-in (min n 32)) (f (min n 32) 0 0 .dec) (is {a = x} {q = q} s e) in rw (w .made) (in-fits (min n 32) (w .it) (omega arith) (f-small (min n 32) 0 0 (w .reads)))
+  unfolding su
+  su-fits s e = let w = was (λ bs. su-in (min n 32) (fromBits bs)) (takeBits (min n 32)) (is {a = x} {q = q} s e) in rw (w .made) (in-fits (min n 32) (fromBits (w .it)) (omega arith) (bits-small (min n 32) (w .reads)))
 
   pub got-signed : Said signed (su (min n 32) 0 0 .dec) xs c g → g ≡ I.Value x q → {m : ℤ} → Fills (made same) (su (min n 32) 0 0 .dec) xs c (Next q) m (toZ w32 (ofZ w32 x))
   got-signed s e = got-made same {a = x} s e (toZ-ofZ (su-fits s e))

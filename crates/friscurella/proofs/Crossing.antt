@@ -22,7 +22,7 @@ use Rattle.sequence_reader.proofs.PayloadParts.{few}
 use Rattle.friscurella.specs.Calls.{answer-of, lent, told, wrote-obu, wrote-part, outcome-numbers, was-read, part-numbers}
 
 -- the numbers of a reader that accepts
-pub done-is : (o : Outcome) → o ≡ Done → record { number = 0; first = 0; second = 0 } ≡ outcome-numbers o
+pub done-is : (o : Outcome) → o ≡ Done → record { number = 0; first = 0; second = 0; third = 0 } ≡ outcome-numbers o
 done-is o e = rw e
 
 module _ {l : List ℕ} {m : ℕ} {n : Numbered} (tells : (m ≡ n .number) × (l ≡ answer-of n)) where

@@ -16,11 +16,11 @@ use Rattle.sequence_reader.specs.declared.read.Outcome.the-variants.{Done, Refu
 
 -- 10000 * major + 100 * minor + patch
 abbrev pub version : ℕ
-version = 300
+version = 400
 
--- an answer: its number and its three values, of which no answer uses the third
+-- an answer: its number and its three values
 abbrev pub answer-of : Numbered → List ℕ
-answer-of n = n .number ∷ n .first ∷ n .second ∷ 0 ∷ []
+answer-of n = n .number ∷ n .first ∷ n .second ∷ n .third ∷ []
 
 -- what a call returns, and leaves in what it is lent: its answer, and the buffer or the record's numbers
 pub record Lent : Type 0 where

@@ -34,7 +34,7 @@ ghost use Rattle.friscurella.specs.Calls.{version, answer-of, outcome-nu
 fn tell(n: Numbered, answer: &mut [u32; 4]) -> u32
     ensures { λ r. ⌜ (r ≡ n .number) × (now (answer .exit) ≡ answer-of n) ⌝ }
 {
-    *answer = [n.number, n.first, n.second, 0];
+    *answer = [n.number, n.first, n.second, n.third];
     n.number
 }
 
@@ -47,6 +47,7 @@ fn outcome_numbers(o: Outcome) -> Numbered
             number: 0,
             first: 0,
             second: 0,
+            third: 0,
         },
         Outcome::Refused(r) => bits::answer::numbers(r),
     }
@@ -57,7 +58,7 @@ fn outcome_numbers(o: Outcome) -> Numbered
 pub extern "C" fn friscurella_version() -> u32
     ensures { λ r. ⌜ r ≡ version ⌝ }
 {
-    300
+    400
 }
 
 // One sentence on an answer, cut where there is no room for it and a 0 byte. Returns the length of the whole sentence.

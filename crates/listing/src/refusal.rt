@@ -6,8 +6,8 @@ use words::explain;
 
 pub fn refusal(r: Refusal) {
     let n = numbers(r);
-    let mut sentence = [0u8; 80];
-    let length = explain(&[n.number, n.first, n.second, 0], &mut sentence);
+    let mut sentence = [0u8; 105];
+    let length = explain(&[n.number, n.first, n.second, n.third], &mut sentence);
     text(b"refused ");
     decimal(n.number);
     text(b": ");

@@ -5,7 +5,7 @@ use mathlib.Core.Bool.{Bool, true, false, cond}
 use Prim.Native.Nat.{ℕ}
 use lib.ListN.{getD}
 use lib.IntN.{ℤ, pos}
-use Rattle.bits.specs.Codec.{flag, choose, recode, merged, absent, via, array, _▷_}
+use Rattle.bits.specs.Codec.{flag, choose, merged, absent, via, array, _▷_}
 use Rattle.bits.specs.Codes.{su}
 use Rattle.bits.specs.Elements.{loop-filter-ref-deltas}
 use Rattle.bits.specs.Lawful.{loose, Lawful}
@@ -22,7 +22,7 @@ delta-coded true z old = refl
 delta-coded false z old = refl
 
 delta-law : (old : ℤ) (e i : ℕ) → Lawful loose (delta old e i)
-unfolding delta _▷_ flag choose su recode absent
+unfolding delta _▷_ flag choose su absent
 delta-law old e i = merged-law _ _ (search (codec-laws, su-law) depth 12) (λ z. refl) (λ p. delta-coded (p .0) (p .1) old) (λ w. absurd w)
 
 chroma-law : (coded : Bool) → Lawful loose (chroma-levels coded)

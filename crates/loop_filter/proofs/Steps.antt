@@ -6,7 +6,7 @@ use Prim.Native.Nat.{ℕ, min}
 use borrow.Author.Tests.{eq-eqb, ne-eqb}
 use lib.Dec.{eqb}
 use lib.IntN.{ℤ}
-use mir.Syntax.{w8}
+use mir.Syntax.{w32}
 use mir.Val.{SFits, toZ, ofZ}
 use Rattle.bits.specs.Walk.{mark, Walked}
 use Rattle.bits.specs.Codec.{flag, absent, choose, merged, _▷_}
@@ -24,10 +24,10 @@ module _ (old : ℤ) (e i : ℕ) (z : ℤ) {c : Cursor} {xs ys : List ℕ} {s : 
   unfolding delta merged _▷_ flag choose absent
   delta-stops g q = set-halt refl g q
 
-  pub delta-goes : {d : Cursor} {t : Step} {zs : List ℕ} → SFits w8 z → Walked (mark true) c xs s ys → s ≡ Next d
-      → Walked (su (min 7 32) e i .enc (toZ w8 (ofZ w8 z))) d ys t zs → Walked (delta old e i .enc z) c xs t zs
+  pub delta-goes : {d : Cursor} {t : Step} {zs : List ℕ} → SFits w32 z → Walked (mark true) c xs s ys → s ≡ Next d
+      → Walked (su (min 7 32) e i .enc (toZ w32 (ofZ w32 z))) d ys t zs → Walked (delta old e i .enc z) c xs t zs
   unfolding delta merged _▷_ flag choose absent
-  delta-goes f g q k = set-then refl g q (rw (word w8 z (f .sfits)) at k)
+  delta-goes f g q k = set-then refl g q (rw (word w32 z (f .sfits)) at k)
 
 -- whether levels 2 and 3 are coded
 module _ (planes a b : ℕ) where

@@ -15,7 +15,7 @@ ghost use Rattle.parts.specs.Written.{Writes};
 ghost use Rattle.loop_filter.specs.LoopFilter.{chroma-coded, chroma-levels, levels, levels-out, delta, ref-deltas, mode-deltas, modes-out, deltas, deltas-out, delta-update, update-out, rest, rest-out, filter-on, default-deltas, default-refs, default-modes, no-levels, filter-off, loop-filter-out, loop-filter-params, no-old};
 
 // The deltas of the references where none are coded: intra, LAST, LAST2, LAST3, GOLDEN, BWDREF, ALTREF2, ALTREF.
-const DEFAULT_DELTAS: [i8; 8] = [1, 0, 0, 0, -1, 0, -1, -1];
+const DEFAULT_DELTAS: [i32; 8] = [1, 0, 0, 0, -1, 0, -1, -1];
 
 fn chroma_coded(planes: u32, a: u32, b: u32) -> bool
     ensures { λ r. ⌜ r ≡ chroma-coded planes a b ⌝ }
@@ -54,14 +54,14 @@ fn levels(out: &mut [u8], c: Cursor, planes: u32, p: LoopFilterParams) -> Step
 }
 
 // A set flag and the delta.
-fn delta(out: &mut [u8], c: Cursor, value: i8, element: u8, i: u8) -> Step
+fn delta(out: &mut [u8], c: Cursor, value: i32, element: u8, i: u8) -> Step
     ensures { λ s. ⌜ Walked (delta (pos 0) element i .enc value) c (now (out .entry)) s (now (out .exit)) ⌝ }
 {
     let s = flag(out, c, true);
     let Step::Next(c) = s else {
         return s;
     };
-    su8(out, c, 7, value, element, i)
+    su(out, c, 7, value, element, i)
 }
 
 fn ref_deltas(out: &mut [u8], c: Cursor, p: LoopFilterParams) -> Step
@@ -158,7 +158,7 @@ fn filter_on(out: &mut [u8], c: Cursor, planes: u32, p: LoopFilterParams) -> Ste
     rest(out, c, p)
 }
 
-fn default_delta(i: usize) -> i8
+fn default_delta(i: usize) -> i32
     requires { ⌜ i < 8 ⌝ }
     ensures { λ r. ⌜ r ≡ getD default-deltas i (pos 0) ⌝ }
 {

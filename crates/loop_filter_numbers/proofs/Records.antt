@@ -8,7 +8,6 @@ use Rattle.loop_filter.specs.declared.record.LoopFilterContext.{LoopFilterConte
 use Rattle.loop_filter.specs.declared.record.LoopFilterParams.{LoopFilterParams}
 use Rattle.numbers.specs.Numbers.{natural-at}
 use Rattle.loop_filter_numbers.specs.Numbers.{loop-filter-context, loop-filter-params}
-use Rattle.loop_filter_numbers.specs.Held.{held-loop-filter}
 
 module _ (xs : List ℤ) where
   pub loop-filter-context-is : {a b : Bool} {c : ℕ}
@@ -22,11 +21,11 @@ module _ (xs : List ℤ) where
   levels-is a b c d = λ i. a i ∷ b i ∷ c i ∷ d i ∷ []
 
   pub loop-filter-params-is : {a : List ℕ} {b : ℕ} {c d : Bool} {e f : List ℤ}
-      → a ≡ held-loop-filter (loop-filter-params xs) .«loop_filter_level»
-      → b ≡ held-loop-filter (loop-filter-params xs) .«loop_filter_sharpness»
-      → c ≡ held-loop-filter (loop-filter-params xs) .«loop_filter_delta_enabled»
-      → d ≡ held-loop-filter (loop-filter-params xs) .«loop_filter_delta_update»
-      → e ≡ held-loop-filter (loop-filter-params xs) .«loop_filter_ref_deltas»
-      → f ≡ held-loop-filter (loop-filter-params xs) .«loop_filter_mode_deltas»
-      → _≡_ {A = LoopFilterParams} (record { «loop_filter_level» = a; «loop_filter_sharpness» = b; «loop_filter_delta_enabled» = c; «loop_filter_delta_update» = d; «loop_filter_ref_deltas» = e; «loop_filter_mode_deltas» = f }) (held-loop-filter (loop-filter-params xs))
+      → a ≡ loop-filter-params xs .«loop_filter_level»
+      → b ≡ loop-filter-params xs .«loop_filter_sharpness»
+      → c ≡ loop-filter-params xs .«loop_filter_delta_enabled»
+      → d ≡ loop-filter-params xs .«loop_filter_delta_update»
+      → e ≡ loop-filter-params xs .«loop_filter_ref_deltas»
+      → f ≡ loop-filter-params xs .«loop_filter_mode_deltas»
+      → _≡_ {A = LoopFilterParams} (record { «loop_filter_level» = a; «loop_filter_sharpness» = b; «loop_filter_delta_enabled» = c; «loop_filter_delta_update» = d; «loop_filter_ref_deltas» = e; «loop_filter_mode_deltas» = f }) (loop-filter-params xs)
   loop-filter-params-is a b c d e f = λ i. record { «loop_filter_level» = a i; «loop_filter_sharpness» = b i; «loop_filter_delta_enabled» = c i; «loop_filter_delta_update» = d i; «loop_filter_ref_deltas» = e i; «loop_filter_mode_deltas» = f i }

@@ -3,7 +3,6 @@ use crate::place;
 use loop_filter::record::*;
 use numbers::*;
 ghost use mathlib.Core.Path.{_≡_};
-ghost use Rattle.loop_filter_numbers.specs.Held.{held-loop-filter};
 ghost use Rattle.loop_filter_numbers.specs.Numbers.{loop-filter-context, loop-filter-params};
 
 pub fn loop_filter_context(n: &[i32; 20]) -> LoopFilterContext
@@ -27,27 +26,27 @@ fn levels(n: &[i32; 20]) -> [u32; 4]
     ]
 }
 
-fn ref_deltas(n: &[i32; 20]) -> [i8; 8]
-    ensures { λ r. ⌜ r ≡ held-loop-filter (loop-filter-params (now (n .entry))) .«loop_filter_ref_deltas» ⌝ }
+fn ref_deltas(n: &[i32; 20]) -> [i32; 8]
+    ensures { λ r. ⌜ r ≡ loop-filter-params (now (n .entry)) .«loop_filter_ref_deltas» ⌝ }
 {
-    let mut a = [0i8; 8];
+    let mut a = [0i32; 8];
     for i in 0..8 {
-        a[i] = int8(n, place::LOOP_FILTER_REF_DELTAS + i);
+        a[i] = number(n, place::LOOP_FILTER_REF_DELTAS + i);
     }
     a
 }
 
-fn mode_deltas(n: &[i32; 20]) -> [i8; 2]
-    ensures { λ r. ⌜ r ≡ held-loop-filter (loop-filter-params (now (n .entry))) .«loop_filter_mode_deltas» ⌝ }
+fn mode_deltas(n: &[i32; 20]) -> [i32; 2]
+    ensures { λ r. ⌜ r ≡ loop-filter-params (now (n .entry)) .«loop_filter_mode_deltas» ⌝ }
 {
     [
-        int8(n, place::LOOP_FILTER_MODE_DELTAS),
-        int8(n, place::LOOP_FILTER_MODE_DELTAS + 1),
+        number(n, place::LOOP_FILTER_MODE_DELTAS),
+        number(n, place::LOOP_FILTER_MODE_DELTAS + 1),
     ]
 }
 
 pub fn loop_filter_params(n: &[i32; 20]) -> LoopFilterParams
-    ensures { λ r. ⌜ r ≡ held-loop-filter (loop-filter-params (now (n .entry))) ⌝ }
+    ensures { λ r. ⌜ r ≡ loop-filter-params (now (n .entry)) ⌝ }
 {
     let loop_filter_level = levels(n);
     let loop_filter_ref_deltas = ref_deltas(n);

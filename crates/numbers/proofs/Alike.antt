@@ -1,14 +1,13 @@
 -- Two values that a table writes alike: by the same bits, or with the same refusal; and where nothing is refused, what is coded of them is the same, so
 -- that what follows goes the same way. Each form of a table keeps it.
-use mathlib.Core.Path.{_≡_, refl, sym, ap, _∙_}
+use mathlib.Core.Path.{_≡_, refl, ap, _∙_}
 use mathlib.Core.List.{List, [], _∷_, map}
 use mathlib.Core.Bool.{Bool, true, false}
 use Prim.Native.Nat.{ℕ, zero, suc}
 use lib.Dec.{ltb}
 use lib.ListN.{getD}
-use Rattle.bits.specs.Walk.{Out, End, done, refused, refuses, after, join, run}
-use Rattle.bits.specs.Codec.{Codec, absent, _▷_, choose, via, checked, merged, array, uncons}
-use Rattle.bits.specs.declared.answer.Refusal.{Refusal}
+use Rattle.bits.specs.Walk.{Out, End, done, refused, after, join, run}
+use Rattle.bits.specs.Codec.{Codec, absent, _▷_, choose, via, array, uncons}
 use Rattle.bits.proofs.Laws.{refused-done}
 
 pub record Alike {A : Type 0} (c : Codec A) (a b : A) : Type 0 where
@@ -21,13 +20,6 @@ equal {c = c} e = record { runs = rw e; codes = λ _. rw e }
 pub itself : {A : Type 0} {c : Codec A} {a : A} → Alike c a a
 itself = equal refl
 
--- two values with one refusal
-pub refuses-done : {o : Out} {r : Refusal} → o ≡ refuses r → o .end ≡ done → ⊥
-refuses-done e h = refused-done (sym (ap (λ (o : Out). o .end) e) ∙ h)
-
-pub turned-down : {A : Type 0} {c : Codec A} {a b : A} {r : Refusal} → run (c .enc a) ≡ refuses r → run (c .enc b) ≡ refuses r → Alike c a b
-turned-down p q = record { runs = p ∙ sym q; codes = λ h. absurd (refuses-done p h) }
-
 -- behind a refusal nothing matters
 join-alike : (o p q : Out) → (o .end ≡ done → p ≡ q) → join o p ≡ join o q
 unfolding join
@@ -37,7 +29,7 @@ join-alike o p q h = go (o .end) refl
     go done k = ap (after done (o .bits)) (h k)
     go (refused r) k = refl
 
-pub join-done : (o p : Out) → join o p .end ≡ done → (o .end ≡ done) × (p .end ≡ done)
+join-done : (o p : Out) → join o p .end ≡ done → (o .end ≡ done) × (p .end ≡ done)
 unfolding join
 join-done o p h = go (o .end) refl h
   where
@@ -47,7 +39,7 @@ join-done o p h = go (o .end) refl h
 
 module _ {A B : Type 0} {c : Codec A} {a b : A} {x y : B} where
   -- what follows may go by what was coded, where it is not refused
-  pub following : (k : A → Codec B) → Alike c a b → (run (c .enc a) .end ≡ done → Alike (k (c .coded a)) x y) → Alike (c ▷ k) (a, x) (b, y)
+  following : (k : A → Codec B) → Alike c a b → (run (c .enc a) .end ≡ done → Alike (k (c .coded a)) x y) → Alike (c ▷ k) (a, x) (b, y)
   unfolding _▷_ run
   following k first next = record {
     runs =
@@ -67,10 +59,6 @@ module _ {A : Type 0} {c : Codec A} {a b : A} where
   chosen true p q = record { runs = p .runs; codes = p .codes }
   chosen false p q = record { runs = q .runs; codes = q .codes }
 
-  pub passing : (test : A → Bool) (r : Refusal) → test a ≡ test b → Alike c a b → Alike (checked test r c) a b
-  unfolding checked run
-  passing test r same inner = record { runs = rw (same, inner .runs); codes = λ h. inner .codes (join-done _ _ h .1) }
-
 pub nothing : {A : Type 0} (z a b : A) → Alike (absent z) a b
 unfolding absent
 nothing z a b = record { runs = refl; codes = λ _. refl }
@@ -79,11 +67,6 @@ module _ {A B : Type 0} (to : B → A) (from : A → B) {c : Codec A} {a b : B} 
   pub through : Alike c (to a) (to b) → Alike (via to from c) a b
   unfolding via
   through inner = record { runs = inner .runs; codes = λ h. ap from (inner .codes h) }
-
-  -- a value that is got back from what is coded of it
-  pub regained : from (c .coded (to a)) ≡ a → from (c .coded (to b)) ≡ b → Alike c (to a) (to b) → Alike (merged to from c) a b
-  unfolding merged
-  regained p q inner = record { runs = inner .runs; codes = λ h. sym p ∙ ap from (inner .codes h) ∙ q }
 
 -- two lists, place by place
 pub data Each {A : Type 0} (R : A → A → Type 0) : List A → List A → Type 0 where
@@ -97,15 +80,10 @@ listed z item each zero i n rs = nothing [] _ _
 listed z item each (suc m) i n none = itself
 listed z item each (suc m) i n (more {a} {b} r rs) = through (uncons z) (λ p. p .0 ∷ p .1) (both (chosen (ltb i n) (each i a b r) (nothing z a b)) (λ _. listed z item each m (suc i) n rs))
 
--- what a map leaves, and what stands at a place
+-- what a map leaves
 pub mapped : {A : Type 0} {R : A → A → Type 0} (f : A → A) → ((x : A) → R (f x) x) → (xs : List A) → Each R (map f xs) xs
 mapped f r [] = none
 mapped f r (x ∷ xs) = more (r x) (mapped f r xs)
-
-pub placed : {A : Type 0} {R : A → A → Type 0} (z : A) → R z z → {xs ys : List A} → Each R xs ys → (i : ℕ) → R (getD xs i z) (getD ys i z)
-placed z r none i = r
-placed z r (more p ps) zero = p
-placed z r (more p ps) (suc i) = placed z r ps i
 
 -- what holds of every entry of a table
 pub data All {A : Type 0} (P : A → Type 0) : List A → Type 0 where

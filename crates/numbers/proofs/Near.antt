@@ -1,40 +1,20 @@
 -- Numbers that the tables' fields write alike: a number, and the nearest that a narrower type holds.
 use mathlib.Core.Path.{_≡_, refl, sym, ap, _∙_}
-use mathlib.Core.Logic.{⊎-elim}
 use mathlib.Core.Bool.{Bool, true, false, cond}
-use Prim.Native.Nat.{ℕ, zero, suc, _*_, _^_, _<_, _≤_, min}
+use Prim.Native.Nat.{ℕ, zero, suc, _<_, _≤_}
 use native.Mathlib.Omega.{arith}
 use lib.Dec.{ltb}
 use lib.IntN.{ℤ, pos, negsuc, negℤ}
 use lib.Signed.{mag, ltZ}
-use borrow.Author.Tests.{ltb-true, ltb-false, lt-ltb, le-ltb, lt-leb, ne-eqb}
-use Rattle.bits.specs.Walk.{done, refuses, demand, run}
-use Rattle.bits.specs.Codec.{Codec, f, flag, absent, choose, merged, recode, _▷_}
-use Rattle.bits.specs.Codes.{su}
+use borrow.Author.Tests.{ltb-true, ltb-false, lt-ltb, le-ltb, ne-eqb}
+use Rattle.bits.specs.Walk.{done, demand, run}
+use Rattle.bits.specs.Codec.{Codec}
 use Rattle.bits.specs.declared.answer.Refusal.{Refusal}
-use Rattle.bits.specs.declared.answer.Refusal.the-variants.{Inconsistent, Unfit}
+use Rattle.bits.specs.declared.answer.Refusal.the-variants.{Inconsistent}
 use Rattle.bits.proofs.Laws.{refused-done}
-use Rattle.bits.proofs.Storing.{below-or}
 use Rattle.parts.specs.Codes.{same, inferredSigned, clip, trimmed}
 use Rattle.parts.proofs.Signs.{same-is}
-use Rattle.numbers.proofs.Alike.{Alike, equal, itself, turned-down, both, chosen, nothing, regained}
-
--- two numbers that are equal, or both m and more
-pub data Near (m : ℕ) : ℕ → ℕ → Type 0 where
-  as-is : {x : ℕ} → Near m x x
-  past : {x y : ℕ} → m ≤ x → m ≤ y → Near m x y
-
-pub min-near : (m x : ℕ) → Near m (min x m) x
-min-near m x = ⊎-elim (λ l. let e : min x m ≡ x = omega arith in rw e as-is) (λ l. past (omega arith) l) (below-or x m)
-
--- f(n), where 2^n is at most m
-unfit : (n e i x : ℕ) → 2 ^ n ≤ x → run (f n e i .enc x) ≡ refuses (Unfit e i)
-unfolding f run
-unfit n e i x h = rw (le-ltb x (2 ^ n) h)
-
-pub field : (n e i m : ℕ) {x y : ℕ} → 2 ^ n ≤ m → Near m x y → Alike (f n e i) x y
-field n e i m h as-is = itself
-field n e i m {x} {y} h (past p q) = turned-down (unfit n e i x (omega arith)) (unfit n e i y (omega arith))
+use Rattle.numbers.proofs.Alike.{Alike}
 
 -- equal, or both m and more, or both -(m + 1) and less
 pub data NearZ (m : ℕ) : ℤ → ℤ → Type 0 where
@@ -55,32 +35,8 @@ clip-near m (negsuc a) = go (ltb m a) refl
     go true e = below {a = m} {b = a} (omega arith) (omega (arith, ltb-true m a e))
     go false e = alone
 
--- su(n), whose numbers go from -2^(n - 1) to 2^(n - 1) - 1
-pub beyond : (n e i : ℕ) (z : ℤ) → 2 ^ n ≤ mag z * 2 → run (su n e i .enc z) ≡ refuses (Unfit e i)
-unfolding su recode
-beyond n e i (pos a) h = rw (le-ltb (a * 2) (2 ^ n) h) (unfit n e i (2 ^ n) (omega arith))
-beyond n e i (negsuc a) h = rw (lt-leb (suc a * 2) (2 ^ n) (omega arith)) (unfit n e i (2 ^ n) (omega arith))
-
-module _ (n e i m : ℕ) (h : 2 ^ n ≤ m * 2) where
-  pub signed : {y z : ℤ} → NearZ m y z → Alike (su n e i) y z
-  signed alone = itself
-  signed (above {a} {b} p q) = turned-down (beyond n e i (pos a) (omega arith)) (beyond n e i (pos b) (omega arith))
-  signed (below {a} {b} p q) = turned-down (beyond n e i (negsuc a) (omega arith)) (beyond n e i (negsuc b) (omega arith))
-
--- a flag, and su(n) where it is set: a delta
-module _ (n e i m : ℕ) (h : 2 ^ n ≤ m * 2) (set : ℤ → Bool) (old : ℤ) (back : (z : ℤ) → cond (set z) (cond (set z) z (pos 0)) old ≡ z) where
-  abbrev delta-in : Bool × ℤ → ℤ
-  delta-in p = cond (p .0) (p .1) old
-
-  got-back : (z : ℤ) → delta-in ((flag ▷ λ coded. choose coded (su n e i) (absent (pos 0))) .coded (set z, z)) ≡ z
-  unfolding flag _▷_ choose absent su recode
-  got-back z = back z
-
-  pub delta : {y z : ℤ} → set y ≡ set z → NearZ m y z → Alike (merged (λ z. (set z, z)) delta-in (flag ▷ λ coded. choose coded (su n e i) (absent (pos 0)))) y z
-  delta {y} {z} same near = regained (λ z. (set z, z)) delta-in (got-back y) (got-back z) (both (equal same) (λ coded. chosen coded (signed n e i m h near) (nothing (pos 0) y z)))
-
 -- a number that is looked for inside the bounds
-pub same-near : {m : ℕ} (x : ℤ) {y z : ℤ} → mag x < m → NearZ m y z → same y x ≡ same z x
+same-near : {m : ℕ} (x : ℤ) {y z : ℤ} → mag x < m → NearZ m y z → same y x ≡ same z x
 same-near x l alone = refl
 same-near (pos x) l (above {a} {b} p q) = ne-eqb a x (λ e. omega arith) ∙ sym (ne-eqb b x (λ e. omega arith))
 same-near (negsuc x) l (above p q) = refl
@@ -92,7 +48,7 @@ unfolding run
 demanded true r h = refl
 demanded false r h = absurd (refused-done h)
 
-pub found : (e : ℕ) (x y : ℤ) → run (inferredSigned e x .enc y) .end ≡ done → y ≡ x
+found : (e : ℕ) (x y : ℤ) → run (inferredSigned e x .enc y) .end ≡ done → y ≡ x
 unfolding inferredSigned
 found e x y h = same-is y x (demanded (same y x) (Inconsistent e 0) h)
 

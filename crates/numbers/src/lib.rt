@@ -1,25 +1,11 @@
-// A number as a field takes it. A field of a narrower type takes the nearest number that it holds, and the record is answered as the one with the number
-// itself; a number below 0 goes into a field without sign as the largest number, which no coded field of a part holds.
+// A number as a field takes it. One of 16 bits takes the nearest number that it holds, and the record is answered as the one with the number itself; a number
+// below 0 goes into a field without sign as the largest number, which no coded field of a part holds.
 ghost use mathlib.Core.Path.{_≡_};
-ghost use Prim.Native.Nat.{_^_, _<_};
 ghost use Rattle.numbers.specs.Numbers.{signed-at, set-at, natural-at};
-ghost use Rattle.numbers.specs.Held.{byte, int8, int16};
-
-pub fn byte(n: u32) -> u8
-    ensures { λ r. ⌜ r ≡ byte n ⌝ }
-{
-    if n < 255 { n as u8 } else { 255 }
-}
-
-// A number into a field of 32 bits, which holds it.
-pub fn word(n: u32) -> u32
-    ensures { λ r. ⌜ (r ≡ n) × (n < 2 ^ 32) ⌝ }
-{
-    n
-}
+ghost use Rattle.numbers.specs.Held.{int16};
 
 // The number at a place; beyond the last, 0.
-fn number(n: &[i32], i: usize) -> i32
+pub fn number(n: &[i32], i: usize) -> i32
     ensures { λ r. ⌜ r ≡ signed-at (now (n .entry)) i ⌝ }
 {
     if i < n.len() { n[i] } else { 0 }
@@ -39,19 +25,6 @@ pub fn natural(n: &[i32], i: usize) -> u32
         return 4294967295;
     }
     x as u32
-}
-
-pub fn int8(n: &[i32], i: usize) -> i8
-    ensures { λ r. ⌜ r ≡ int8 (signed-at (now (n .entry)) i) ⌝ }
-{
-    let x = number(n, i);
-    if x < -128 {
-        return -128;
-    }
-    if 127 < x {
-        return 127;
-    }
-    x as i8
 }
 
 pub fn int16(n: &[i32], i: usize) -> i16

@@ -11,3 +11,4 @@ pub mod HeaderReading
 pub mod TailReading
 pub mod ObuReading
 pub mod Demands
+pub mod Forgetting

@@ -3,7 +3,7 @@ use mathlib.Core.Path.{_≡_}
 use mathlib.Core.List.{List, [], _∷_}
 use mathlib.Core.Bool.{Bool, true, false}
 use Prim.Native.Nat.{ℕ}
-use Rattle.bits.specs.Walk.{Walk, none, field, _⊕_}
+use Rattle.bits.specs.Walk.{Walk, none, unsigned, _⊕_}
 use Rattle.obu.specs.declared.header.ObuHeader.{ObuHeader}
 use Rattle.obu.specs.Header.{obu-header}
 use Rattle.obu.specs.Framing.{obu-size}
@@ -27,4 +27,4 @@ pub record Tells (r : Bool) (P : Type 0) : Type 0 where
 -- the walk that writes some bytes
 unfoldable pub octets : List ℕ → Walk
 octets [] = none
-octets (e ∷ es) = field 8 e 0 0 ⊕ octets es
+octets (e ∷ es) = unsigned 8 e 0 0 ⊕ octets es

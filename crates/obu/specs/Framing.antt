@@ -5,7 +5,7 @@ use Prim.Native.Nat.{ℕ, _+_, _-_, _*_, _/_, _%_}
 use lib.ListN.{length}
 use lib.Dec.{eqb}
 use Rattle.bits.specs.Bits.{Bits}
-use Rattle.bits.specs.Walk.{Walk, none, field, mark, refuse, either, _⊕_, End, done, refused, run}
+use Rattle.bits.specs.Walk.{Walk, none, unsigned, mark, refuse, either, _⊕_, End, done, refused, run}
 use Rattle.bits.specs.Codec.{Got, got, stop, andThen, Nil, nil}
 use Rattle.bits.specs.Codes.{leb128}
 use Rattle.bits.specs.declared.answer.Refusal.the-variants.{Size, Trailing}
@@ -29,7 +29,7 @@ padding n = 7 - n % 8
 
 -- the trailing bits of a payload of n bits
 unfoldable pub trailing-bits : ℕ → Walk
-trailing-bits n = mark true ⊕ field (padding n) 0 0 0
+trailing-bits n = mark true ⊕ unsigned (padding n) 0 0 0
 
 -- reading them: a one bit, and nothing but zeros up to the end; else refusal 7
 unfoldable pub allZero : Bits → Bool

@@ -3,13 +3,13 @@ use crate::header::ObuHeader;
 use bits::answer::*;
 use bits::element::*;
 use writer::*;
-ghost use Rattle.bits.specs.Walk.{Walked, field};
+ghost use Rattle.bits.specs.Walk.{Walked, unsigned};
 ghost use Rattle.obu.specs.Header.{expected-type, obu-extension-header, extension-of, header-end, end-of, obu-header};
 ghost use Rattle.obu.specs.Framing.{obu-size, trailing-bits};
 
 // A bit that is always 0.
 fn zero(out: &mut [u8], c: Cursor) -> Step
-    ensures { λ s. ⌜ Walked (field 1 0 0 0) c (now (out .entry)) s (now (out .exit)) ⌝ }
+    ensures { λ s. ⌜ Walked (unsigned 1 0 0 0) c (now (out .entry)) s (now (out .exit)) ⌝ }
 {
     flag(out, c, false)
 }

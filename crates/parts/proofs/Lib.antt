@@ -4,3 +4,4 @@ pub mod Pairs
 pub mod Flags
 pub mod Writing
 pub mod Laws
+pub mod Forgetting

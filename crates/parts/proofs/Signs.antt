@@ -8,20 +8,20 @@ use lib.IntN.{ℤ, pos, negsuc}
 use lib.Pow.{pow-pos}
 use lib.Signed.{mag}
 use lib.Dec.{eqb}
-use mir.Syntax.{Width, w8, w16}
+use mir.Syntax.{Width, w16, w32}
 use mir.Val.{SFits, toZ, ofZ, hbits}
 use mir.Facts.{toZ-ofZ}
 use borrow.Author.Tests.{eq-eqb, ne-eqb, eqb-true}
 use Rattle.bits.specs.Bits.{toBits}
 use Rattle.bits.specs.Walk.{Walk, Walked, _⊕_, wrote, run}
-use Rattle.bits.specs.Codec.{Codec, f, recode}
+use Rattle.bits.specs.Codec.{Codec}
 use Rattle.bits.specs.Codes.{su-out, su}
 use Rattle.bits.specs.declared.answer.Cursor.{Cursor}
 use Rattle.bits.specs.declared.answer.Step.{Step}
 use Rattle.bits.specs.declared.answer.Step.the-variants.{Next}
+use Rattle.bits.proofs.Leaves.{field-run}
 use Rattle.bits.proofs.Walking.{hop}
 use Rattle.parts.specs.Codes.{same, inferredSigned}
-use Rattle.parts.proofs.Packing.{field-run}
 
 -- the test tells
 pub same-is : (a b : ℤ) → same a b ≡ true → a ≡ b
@@ -64,29 +64,29 @@ given-any : (w : Width) (t : Codec ℤ) (z : ℤ) {c : Cursor} {xs ys : List ℕ
 given-any w t z f g = rw (word w z f) at g
 
 module _ (t : Codec ℤ) (z : ℤ) {c : Cursor} {xs ys : List ℕ} {s : Step} where
-  pub given : mag z < 128 → Walked (t .enc (toZ w8 (ofZ w8 z))) c xs s ys → Walked (t .enc z) c xs s ys
-  given f g = given-any w8 t z f g
+  pub given : mag z < 2 ^ 31 → Walked (t .enc (toZ w32 (ofZ w32 z))) c xs s ys → Walked (t .enc z) c xs s ys
+  given f g = given-any w32 t z f g
 
   pub given-16 : mag z < 32768 → Walked (t .enc (toZ w16 (ofZ w16 z))) c xs s ys → Walked (t .enc z) c xs s ys
   given-16 f g = given-any w16 t z f g
 
-  pub given-then : {w : Walk} {d : Cursor} {u : Step} {zs : List ℕ} → mag z < 128 → Walked (t .enc (toZ w8 (ofZ w8 z))) c xs s ys → s ≡ Next d → Walked w d ys u zs → Walked (t .enc z ⊕ w) c xs u zs
+  pub given-then : {w : Walk} {d : Cursor} {u : Step} {zs : List ℕ} → mag z < 2 ^ 31 → Walked (t .enc (toZ w32 (ofZ w32 z))) c xs s ys → s ≡ Next d → Walked w d ys u zs → Walked (t .enc z ⊕ w) c xs u zs
   given-then f g h k = hop (given f g) h k
 
 -- the same of a number and the one that it has to be
 module _ (e : ℕ) (x z : ℤ) {c : Cursor} {xs ys : List ℕ} {s : Step} where
-  pub both : mag x < 128 → mag z < 128 → Walked (inferredSigned e (toZ w8 (ofZ w8 x)) .enc (toZ w8 (ofZ w8 z))) c xs s ys → Walked (inferredSigned e x .enc z) c xs s ys
-  both f g h = rw (word w8 x f, word w8 z g) at h
+  pub both : mag x < 2 ^ 31 → mag z < 2 ^ 31 → Walked (inferredSigned e (toZ w32 (ofZ w32 x)) .enc (toZ w32 (ofZ w32 z))) c xs s ys → Walked (inferredSigned e x .enc z) c xs s ys
+  both f g h = rw (word w32 x f, word w32 z g) at h
 
-  pub both-then : {w : Walk} {d : Cursor} {u : Step} {zs : List ℕ} → mag x < 128 → mag z < 128 → Walked (inferredSigned e (toZ w8 (ofZ w8 x)) .enc (toZ w8 (ofZ w8 z))) c xs s ys → s ≡ Next d → Walked w d ys u zs
+  pub both-then : {w : Walk} {d : Cursor} {u : Step} {zs : List ℕ} → mag x < 2 ^ 31 → mag z < 2 ^ 31 → Walked (inferredSigned e (toZ w32 (ofZ w32 x)) .enc (toZ w32 (ofZ w32 z))) c xs s ys → s ≡ Next d → Walked w d ys u zs
       → Walked (inferredSigned e x .enc z ⊕ w) c xs u zs
   both-then f g k h q = hop (both f g k) h q
 
 -- a number that a function finds
-pub both-by : (e : ℕ) (y x z : ℤ) {c : Cursor} {xs ys : List ℕ} {s : Step} → mag y < 128 → mag z < 128 → y ≡ x → Walked (inferredSigned e (toZ w8 (ofZ w8 y)) .enc (toZ w8 (ofZ w8 z))) c xs s ys → Walked (inferredSigned e x .enc z) c xs s ys
+pub both-by : (e : ℕ) (y x z : ℤ) {c : Cursor} {xs ys : List ℕ} {s : Step} → mag y < 2 ^ 31 → mag z < 2 ^ 31 → y ≡ x → Walked (inferredSigned e (toZ w32 (ofZ w32 y)) .enc (toZ w32 (ofZ w32 z))) c xs s ys → Walked (inferredSigned e x .enc z) c xs s ys
 both-by e y x z f g h k = rw h at (both e y z f g k)
 
-pub zero-small : mag (pos 0) < 128
+pub zero-small : mag (pos 0) < 2 ^ 31
 zero-small = omega arith
 
 pub zero-fits : (w : Width) → SFits w (pos 0)
@@ -97,7 +97,7 @@ zero-word w a f = same-word w a (pos 0) f (zero-fits w)
 
 -- su(n) of a number that it holds, by its code
 pub su-run : (n code e i : ℕ) (z : ℤ) → code ≡ su-out n z → code < 2 ^ n → run (su n e i .enc z) ≡ wrote (toBits n code)
-unfolding su recode f
-su-run n code e i z q l = let k : su-out n z ≡ code = sym q in rw k (field-run n code e i l)
+unfolding su
+su-run n code e i z q l = let k : su-out n z ≡ code = sym q in rw k (field-run n code _ l)
 
 pub ruleset signs = (given, given-then, both, both-then, zero-small)

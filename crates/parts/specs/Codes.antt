@@ -6,9 +6,10 @@ use Prim.Native.Nat.{ℕ, _^_}
 use lib.Dec.{eqb}
 use lib.IntN.{ℤ, pos, negsuc}
 use lib.Signed.{ltZ}
+use Rattle.bits.specs.Widths.{bitLength}
 use Rattle.bits.specs.Walk.{demand}
-use Rattle.bits.specs.Codec.{Codec, got, andThen, single, recode, f}
-use Rattle.bits.specs.declared.answer.Refusal.the-variants.{Inconsistent}
+use Rattle.bits.specs.Codec.{Codec, got, andThen, single, fieldAs}
+use Rattle.bits.specs.declared.answer.Refusal.the-variants.{Inconsistent, Unfit}
 
 -- whether two signed numbers are the same
 abbrev pub same : ℤ → ℤ → Bool
@@ -27,7 +28,7 @@ natural-out width (pos m) = m
 natural-out width (negsuc m) = 2 ^ width
 
 unfoldable pub natural : ℕ → ℕ → ℕ → Codec ℤ
-natural width e i = recode (natural-out width) pos (f width e i)
+natural width e i = fieldAs width (natural-out width) pos (λ z. Unfit e i (bitLength (natural-out width z)))
 
 -- a number held between two others
 unfoldable pub clip : ℤ → ℤ → ℤ → ℤ

@@ -31,7 +31,7 @@ pub fn all(a: bool, b: bool, c: bool) -> bool
 }
 
 // A delta that is not coded has to be x.
-pub fn inferred_delta(out: &mut [u8], c: Cursor, delta: i8, x: i8, element: u8) -> Step
+pub fn inferred_delta(out: &mut [u8], c: Cursor, delta: i32, x: i32, element: u8) -> Step
     ensures { λ s. ⌜ Walked (inferredSigned element x .enc delta) c (now (out .entry)) s (now (out .exit)) ⌝ }
 {
     demand(out, c, delta == x, element, 0)

@@ -1,11 +1,11 @@
 // f(n), su(n), uvlc and leb128, written.
 use bits::answer::*;
 ghost use Prim.Native.Nat.{min};
-ghost use Rattle.bits.specs.Walk.{Walked, field};
+ghost use Rattle.bits.specs.Walk.{Walked, unsigned};
 ghost use Rattle.bits.specs.Codes.{uvlc, su, leb128};
 
 pub fn f(out: &mut [u8], c: Cursor, width: u32, value: u32, element: u8, index: u8) -> Step
-    ensures { λ r. ⌜ Walked (field width value element index) c (now (out .entry)) r (now (out .exit)) ⌝ }
+    ensures { λ r. ⌜ Walked (unsigned width value element index) c (now (out .entry)) r (now (out .exit)) ⌝ }
 {
     writer::f(out, c, width, value, element, index)
 }

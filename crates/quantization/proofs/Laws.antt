@@ -3,7 +3,7 @@ use mathlib.Core.Path.{_≡_, refl, sym}
 use mathlib.Core.Bool.{Bool, true, false, cond, not}
 use Prim.Native.Nat.{ℕ}
 use lib.IntN.{ℤ, pos}
-use Rattle.bits.specs.Codec.{flag, choose, recode, absent, _▷_}
+use Rattle.bits.specs.Codec.{flag, choose, absent, _▷_}
 use Rattle.bits.specs.Codes.{su}
 use Rattle.bits.specs.Lawful.{loose, Lawful}
 use Rattle.bits.proofs.Laws.{via-law, merged-law}
@@ -27,7 +27,7 @@ delta-coded true z = refl
 delta-coded false z = refl
 
 delta-law : (e : ℕ) → Lawful loose (read-delta-q e)
-unfolding read-delta-q _▷_ flag choose su recode absent
+unfolding read-delta-q _▷_ flag choose su absent
 delta-law e = merged-law delta-out delta-in (search (codec-laws, su-law) depth 12) delta-back (λ p. delta-coded (p .0) (p .1)) (λ w. absurd w)
 
 v-coded-law : Lawful loose v-coded

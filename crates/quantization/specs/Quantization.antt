@@ -8,6 +8,7 @@ use Rattle.bits.specs.Codes.{su}
 use Rattle.bits.specs.Elements.{base-q-idx, delta-q-y-dc, diff-uv-delta, delta-q-u-dc, delta-q-u-ac, delta-q-v-dc, delta-q-v-ac, qm-y, qm-u, qm-v}
 use Rattle.parts.specs.Codes.{same, inferredSigned}
 use Rattle.quantization.specs.declared.record.QuantizationParams.{QuantizationParams}
+use Rattle.quantization.specs.declared.record.QuantizationDeltas.{QuantizationDeltas}
 use Rattle.quantization.specs.declared.record.QuantizationContext.{QuantizationContext}
 
 -- 5.9.13: a flag, and su(7) where it is set. Zero is written without; a set flag and zero are read as well.
@@ -86,15 +87,15 @@ quantization-table context =
     chroma (context .planes) (context .«separate_uv_delta_q») ▷ λ _.
     qmatrix (context .«separate_uv_delta_q»)
 
--- the record for its table
-abbrev pub v-out : QuantizationParams → ℤ × ℤ
-v-out q = (q .«delta_q_v_dc», q .«delta_q_v_ac»)
+-- the record for its table, and its deltas apart
+abbrev pub v-out : QuantizationDeltas → ℤ × ℤ
+v-out d = (d .«v_dc», d .«v_ac»)
 
-abbrev pub uv-out : QuantizationParams → Deltas
-uv-out q = (q .«delta_q_u_dc», (q .«delta_q_u_ac», v-out q))
+abbrev pub uv-out : QuantizationDeltas → Deltas
+uv-out d = (d .«u_dc», (d .«u_ac», v-out d))
 
-abbrev pub chroma-out : QuantizationParams → Chroma
-chroma-out q = (q .«diff_uv_delta», uv-out q)
+abbrev pub deltas-of : QuantizationParams → QuantizationDeltas
+deltas-of q = record { «y_dc» = q .«delta_q_y_dc»; «u_dc» = q .«delta_q_u_dc»; «u_ac» = q .«delta_q_u_ac»; «v_dc» = q .«delta_q_v_dc»; «v_ac» = q .«delta_q_v_ac» }
 
 abbrev pub matrices-out : QuantizationParams → Matrices
 matrices-out q = (q .«qm_y», (q .«qm_u», q .«qm_v»))
@@ -102,8 +103,12 @@ matrices-out q = (q .«qm_y», (q .«qm_u», q .«qm_v»))
 abbrev pub qmatrix-out : QuantizationParams → Bool × Matrices
 qmatrix-out q = (q .«using_qmatrix», matrices-out q)
 
+-- what a record has written with these deltas in place of its own
+abbrev pub given : QuantizationParams → QuantizationDeltas → QuantizationTable
+given q d = (q .«base_q_idx», (d .«y_dc», ((q .«diff_uv_delta», uv-out d), qmatrix-out q)))
+
 abbrev pub quantization-out : QuantizationParams → QuantizationTable
-quantization-out q = (q .«base_q_idx», (q .«delta_q_y_dc», (chroma-out q, qmatrix-out q)))
+quantization-out q = given q (deltas-of q)
 
 abbrev pub quantization-in : QuantizationTable → QuantizationParams
 quantization-in = λ (base, (y-dc, ((diff, (u-dc, (u-ac, (v-dc, v-ac)))), (coded, (y, (u, v)))))). record {

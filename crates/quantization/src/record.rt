@@ -14,6 +14,15 @@ pub struct QuantizationParams {
     pub qm_v: u32,
 }
 
+// The deltas apart, as numbers of 32 bits: what i8 does not hold is refused too, and the refusal says the width that the number needs.
+pub struct QuantizationDeltas {
+    pub y_dc: i32,
+    pub u_dc: i32,
+    pub u_ac: i32,
+    pub v_dc: i32,
+    pub v_ac: i32,
+}
+
 // What the sequence header says: the planes are 1 if mono_chrome, and any other number counts as 3.
 pub struct QuantizationContext {
     pub planes: u32,

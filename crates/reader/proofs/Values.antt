@@ -11,17 +11,19 @@ use mir.Facts.{toZ-pos}
 use borrow.Author.Tests.{lt-ltb, le-ltb}
 use lib.Pow.{pow-mono}
 use Rattle.bits.specs.Codec.{f, nil}
-use Rattle.bits.specs.Codes.{unary, uvlc, su, su-in}
+use Rattle.bits.specs.Codes.{unary, uvlc, su, su-out, su-in}
 use Rattle.bits.specs.Answers.{why, found, moved, Said, said}
 use Rattle.bits.specs.Answers as form
+use Rattle.bits.specs.Widths.{signedLength}
 use Rattle.bits.specs.declared.answer.Cursor.{Cursor}
 use Rattle.bits.specs.declared.answer.Refusal.{Refusal}
+use Rattle.bits.specs.declared.answer.Refusal.the-variants.{Unfit}
 use Rattle.bits.specs.declared.answer.GotNumber.{GotNumber}
 use Rattle.bits.specs.declared.answer.GotNumber.the-variants as N
 use Rattle.bits.specs.declared.answer.GotSigned.the-variants as I
 use Rattle.bits.proofs.Signs.{same, unflip-fits, unflip-is}
 use Rattle.bits.proofs.Bounds.{f-small, unary-small, one-some}
-use Rattle.bits.proofs.Reading.{is, is-not, start, recoded, read-last, read-no}
+use Rattle.bits.proofs.Reading.{is, is-not, start, field-as, read-last, read-no}
 
 -- The numbers of su(n)'s codes, by the test that the code makes.
 module _ (n v p : ℕ) (q : p ≡ 2 ^ n) (l : n ≤ 32) where
@@ -75,7 +77,7 @@ module _ (n w : ℕ) (e : w ≡ min n 32) {xs : List ℕ} {c : Cursor} {g : GotN
 
   pub su-halt : {y z : Refusal} → g ≡ N.Refused z → y ≡ why (form.number .view g) → Said form.signed (su (min n 32) 0 0 .dec) xs c (I.Refused y)
   unfolding su
-  su-halt h q = start (su (min n 32) 0 0) (recoded _ _ _ (read-no _ (is-not width h q)))
+  su-halt h q = start (su (min n 32) 0 0) (field-as _ (su-out (min n 32)) (su-in (min n 32)) (λ z. Unfit 0 0 (signedLength z)) (read-no _ (is-not width h q)))
 
   module _ {v : ℕ} {d : Cursor} (h : g ≡ N.Value v d) where
     pub su-small : v < 2 ^ w
@@ -83,4 +85,4 @@ module _ (n w : ℕ) (e : w ≡ min n 32) {xs : List ℕ} {c : Cursor} {g : GotN
 
     pub su-done : (r : ℤ) → mag r < 2 ^ hbits w32 → r ≡ su-in w v → Said form.signed (su (min n 32) 0 0 .dec) xs c (I.Value (toZ w32 (ofZ w32 r)) d)
     unfolding su
-    su-done r l q = rw (same w32 r (record { sfits = l })) (start (su (min n 32) 0 0) (recoded _ _ _ (read-last _ (is width h) (rw (← e) q))))
+    su-done r l q = rw (same w32 r (record { sfits = l })) (start (su (min n 32) 0 0) (field-as _ (su-out (min n 32)) (su-in (min n 32)) (λ z. Unfit 0 0 (signedLength z)) (read-last _ (is width h) (rw (← e) q))))

@@ -17,14 +17,18 @@ fn more(out: &mut [u8], at: usize, n: u32) -> usize {
     number(out, at, n)
 }
 
-// The numbers of an answer: 0 and the count, or a refusal and its two values.
+// The numbers of an answer: 0 and the count, or a refusal and its two values, to which 2 adds the width.
 fn numbers(out: &mut [u8], answer: &[u32; 4]) -> usize {
     let at = number(out, 0, answer[0]);
     let at = more(out, at, answer[1]);
     if answer[0] == 0 {
         return at;
     }
-    more(out, at, answer[2])
+    let at = more(out, at, answer[2]);
+    if answer[0] == 2 {
+        return more(out, at, answer[3]);
+    }
+    at
 }
 
 // A writer's answer, and the whole buffer.

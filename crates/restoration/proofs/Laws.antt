@@ -5,12 +5,12 @@ use Prim.Native.Nat.{ℕ, _+_, _-_, _<_}
 use native.Mathlib.Omega.{arith}
 use lib.Dec.{eqb, ltb}
 use borrow.Author.Tests.{ltb-true, ltb-false, eqb-true, eqb-false, ne-eqb}
-use Rattle.bits.specs.Codec.{f, flag, choose, recode, absent, _▷_}
+use Rattle.bits.specs.Codec.{fieldAs, flag, choose, absent, _▷_}
 use Rattle.bits.specs.Elements.{lr-unit-shift}
 use Rattle.bits.specs.Lawful.{loose, Lawful}
-use Rattle.bits.specs.declared.answer.Refusal.the-variants.{Inconsistent}
-use Rattle.bits.proofs.Laws.{via-law, recode-law, merged-law, checked-law}
-use Rattle.bits.proofs.Leaves.{codec-laws, f-law, f-fits}
+use Rattle.bits.specs.declared.answer.Refusal.the-variants.{Inconsistent, Unfit}
+use Rattle.bits.proofs.Laws.{via-law, merged-law, checked-law}
+use Rattle.bits.proofs.Leaves.{codec-laws, field-fits, fieldAs-law}
 use Rattle.restoration.specs.Restoration.{large-out, large-in, large-shift, small-out, small-in, small-shift, unit-shift, uv-shift, shifts, uses, kinds, three-planes, one-kind, one-plane, no-kinds, no-planes, lr-table, lr-out, lr-in, lr-params}
 use Rattle.restoration.specs.declared.record.LoopRestorationContext.{LoopRestorationContext}
 
@@ -29,10 +29,10 @@ large-there : (v : ℕ) → large-out v < 2 → large-in (large-out v) ≡ v
 large-there v h = rw (not-zero v h) (omega (arith, eqb-false v 0 (not-zero v h)))
 
 large-law : Lawful loose large-shift
-unfolding large-shift recode f
+unfolding large-shift
 large-law = checked-law (λ v. not (eqb v 0)) (Inconsistent lr-unit-shift 0)
-    (recode-law large-out large-in (f-law 1 lr-unit-shift 0) (λ v bs s. large-back v) (λ v bs s. large-there v (f-fits 1 lr-unit-shift 0 (large-out v) bs s)))
-    (λ v bs s. ap not (not-zero v (f-fits 1 lr-unit-shift 0 (large-out v) bs s)))
+    (fieldAs-law 1 large-out large-in (λ _. Unfit lr-unit-shift 0 0) (λ v h. large-back v) large-there)
+    (λ v bs s. ap not (not-zero v (field-fits 1 (large-out v) _ bs s)))
     (λ v. refl)
 
 small-back : (v : ℕ) → small-in (small-out v) ≡ v
@@ -46,9 +46,12 @@ small-coded : (b : Bool) (x : ℕ) → cond b (cond b x 0 + 1) 0 ≡ cond b (x +
 small-coded true x = refl
 small-coded false x = refl
 
+bit-law : Lawful loose (fieldAs 1 (λ v. v) (λ v. v) (λ _. Unfit lr-unit-shift 0 0))
+bit-law = fieldAs-law 1 (λ v. v) (λ v. v) (λ _. Unfit lr-unit-shift 0 0) (λ v h. refl) (λ v h. refl)
+
 small-law : Lawful loose small-shift
-unfolding small-shift _▷_ flag choose f absent
-small-law = merged-law small-out small-in (search codec-laws depth 12) small-back (λ p. small-coded (p .0) (p .1)) (λ w. absurd w)
+unfolding small-shift _▷_ flag choose absent
+small-law = merged-law small-out small-in (search (codec-laws, bit-law) depth 12) small-back (λ p. small-coded (p .0) (p .1)) (λ w. absurd w)
 
 unit-law : (large : Bool) → Lawful loose (unit-shift large)
 unfolding unit-shift

@@ -6,26 +6,27 @@ use Prim.Native.Nat.{ℕ, _+_, _-_, _*_, _<_}
 use native.Mathlib.Omega.{arith}
 use borrow.Author.Tests.{lt-ltb, le-ltb, eq-eqb, ne-eqb}
 use Rattle.bits.specs.Walk.{field, mark, run, Walked}
-use Rattle.bits.specs.Codec.{f, flag, absent, choose, checked, recode, merged, _▷_}
-use Rattle.bits.specs.Elements.{frame-restoration-type, lr-unit-shift}
+use Rattle.bits.specs.Codec.{f, flag, absent, choose, checked, merged, _▷_}
+use Rattle.bits.specs.Elements.{lr-unit-shift}
 use Rattle.bits.specs.declared.answer.Cursor.{Cursor}
 use Rattle.bits.specs.declared.answer.Refusal.{Refusal}
-use Rattle.bits.specs.declared.answer.Refusal.the-variants.{Inconsistent}
+use Rattle.bits.specs.declared.answer.Refusal.the-variants.{Inconsistent, Unfit}
 use Rattle.bits.specs.declared.answer.Step.{Step}
 use Rattle.bits.specs.declared.answer.Step.the-variants.{Next, Refused}
+use Rattle.bits.proofs.Leaves.{field-run}
 use Rattle.bits.proofs.Walking.{halt-here, held-then, broken}
 use Rattle.restoration.specs.Restoration.{large-shift, small-shift, uv-shift, used, chroma-used, Uses, uses, kinds}
 use Rattle.restoration.specs.declared.record.LoopRestorationContext.{LoopRestorationContext}
 use Rattle.parts.proofs.Flags.{clear, set-halt, set-then}
-use Rattle.parts.proofs.Packing.{field-run, both-run, by-field}
+use Rattle.parts.proofs.Packing.{both-run, by-field}
 
 module _ (v : ℕ) {c : Cursor} {xs : List ℕ} where
   pub large-zero : v ≡ 0 → Walked (large-shift .enc v) c xs (Refused (Inconsistent lr-unit-shift 0)) xs
-  unfolding large-shift checked recode f
+  unfolding large-shift checked
   large-zero h = halt-here (broken (ap not (eq-eqb v 0 h)))
 
-  pub large-other : {ys : List ℕ} {s : Step} → (v ≡ 0 → ⊥) → Walked (field 1 (v - 1) lr-unit-shift 0) c xs s ys → Walked (large-shift .enc v) c xs s ys
-  unfolding large-shift checked recode f
+  pub large-other : {ys : List ℕ} {s : Step} → (v ≡ 0 → ⊥) → Walked (field 1 (v - 1) (Unfit lr-unit-shift 0 0)) c xs s ys → Walked (large-shift .enc v) c xs s ys
+  unfolding large-shift checked
   large-other h g = held-then (ap not (ne-eqb v 0 h)) (rw (ne-eqb v 0 h) g)
 
 module _ (v : ℕ) {c : Cursor} {xs ys : List ℕ} {s : Step} where
@@ -38,7 +39,7 @@ module _ (v : ℕ) {c : Cursor} {xs ys : List ℕ} {s : Step} where
   small-halt h g q = set-halt (lt-ltb 0 v (omega arith)) g q
 
   pub small-coded : {d : Cursor} {t : Step} {zs : List ℕ} → (v ≡ 0 → ⊥) → Walked (mark true) c xs s ys → s ≡ Next d
-      → Walked (field 1 (v - 1) lr-unit-shift 0) d ys t zs → Walked (small-shift .enc v) c xs t zs
+      → Walked (field 1 (v - 1) (Unfit lr-unit-shift 0 0)) d ys t zs → Walked (small-shift .enc v) c xs t zs
   unfolding small-shift merged _▷_ flag choose absent f
   small-coded h g q k = set-then (lt-ltb 0 v (omega arith)) g q k
 
@@ -62,9 +63,8 @@ pub used-yes : (y : ℕ) (chroma : Bool) → (y ≡ 0 → ⊥) → true ≡ used
 used-yes y chroma h = rw (ne-eqb y 0 h)
 
 -- the three kinds in one field
-pub kinds-packed : (y u v : ℕ) {e i : ℕ} {c : Cursor} {xs ys : List ℕ} {s : Step} → y < 4 → u < 4 → v < 4 → Walked (field 6 (y * 16 + (u * 4 + v)) e i) c xs s ys → Walked (kinds .enc (y, (u, v))) c xs s ys
+pub kinds-packed : (y u v : ℕ) {r : Refusal} {c : Cursor} {xs ys : List ℕ} {s : Step} → y < 4 → u < 4 → v < 4 → Walked (field 6 (y * 16 + (u * 4 + v)) r) c xs s ys → Walked (kinds .enc (y, (u, v))) c xs s ys
 unfolding kinds _▷_ f run
 kinds-packed y u v h k l g =
-    let kind = frame-restoration-type in
-    let x = both-run 2 2 u v (field-run 2 u kind 1 k) (field-run 2 v kind 2 l) l in
-    by-field 6 (y * 16 + (u * 4 + v)) (both-run 2 4 y (u * 4 + v) (field-run 2 y kind 0 h) x (omega arith)) (omega arith) g
+    let x = both-run 2 2 u v (field-run 2 u _ k) (field-run 2 v _ l) l in
+    by-field 6 (y * 16 + (u * 4 + v)) (both-run 2 4 y (u * 4 + v) (field-run 2 y _ h) x (omega arith)) (omega arith) g

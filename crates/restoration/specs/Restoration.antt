@@ -4,13 +4,14 @@ use mathlib.Core.Bool.{Bool, false, cond, not, _&&_, _||_}
 use Prim.Native.Nat.{ℕ, _+_, _-_}
 use lib.Dec.{eqb, ltb}
 use lib.ListN.{getD}
-use Rattle.bits.specs.Codec.{Codec, f, flag, absent, inferred, inferredFlag, choose, checked, recode, merged, via, _▷_}
+use Rattle.bits.specs.Codec.{Codec, fieldAs, f, flag, absent, inferred, inferredFlag, choose, checked, merged, via, _▷_}
 use Rattle.bits.specs.Elements.{frame-restoration-type, uses-lr, uses-chroma-lr, lr-unit-shift, lr-uv-shift}
-use Rattle.bits.specs.declared.answer.Refusal.the-variants.{Inconsistent}
+use Rattle.bits.specs.declared.answer.Refusal.the-variants.{Inconsistent, Unfit}
 use Rattle.restoration.specs.declared.record.LoopRestorationParams.{LoopRestorationParams}
 use Rattle.restoration.specs.declared.record.LoopRestorationContext.{LoopRestorationContext}
 
--- with large superblocks the shift is 1 or 2, and coded less 1; 0 is forbidden, and goes to 2, which one bit does not hold
+-- with large superblocks the shift is 1 or 2, and coded less 1; 0 is forbidden, and goes to 2, which one bit does not hold. No width helps a larger one, and
+-- its refusal says 0.
 abbrev pub large-out : ℕ → ℕ
 large-out v = cond (eqb v 0) 2 (v - 1)
 
@@ -18,7 +19,7 @@ abbrev pub large-in : ℕ → ℕ
 large-in v = v + 1
 
 unfoldable pub large-shift : Codec ℕ
-large-shift = checked (λ v. not (eqb v 0)) (Inconsistent lr-unit-shift 0) (recode large-out large-in (f 1 lr-unit-shift 0))
+large-shift = checked (λ v. not (eqb v 0)) (Inconsistent lr-unit-shift 0) (fieldAs 1 large-out large-in (λ _. Unfit lr-unit-shift 0 0))
 
 -- with small ones it is 0, 1 or 2: the bits 0, 10 and 11
 abbrev pub small-out : ℕ → Bool × ℕ
@@ -28,7 +29,7 @@ abbrev pub small-in : Bool × ℕ → ℕ
 small-in p = cond (p .0) (p .1 + 1) 0
 
 unfoldable pub small-shift : Codec ℕ
-small-shift = merged small-out small-in (flag ▷ λ more. choose more (f 1 lr-unit-shift 0) (absent 0))
+small-shift = merged small-out small-in (flag ▷ λ more. choose more (fieldAs 1 (λ v. v) (λ v. v) (λ _. Unfit lr-unit-shift 0 0)) (absent 0))
 
 unfoldable pub unit-shift : Bool → Codec ℕ
 unit-shift large = choose large large-shift small-shift

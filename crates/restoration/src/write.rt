@@ -17,7 +17,7 @@ fn large_shift(out: &mut [u8], c: Cursor, shift: u32) -> Step
     if shift == 0 {
         return Step::Refused(Refusal::Inconsistent(LR_UNIT_SHIFT, 0));
     }
-    f(out, c, 1, shift - 1, LR_UNIT_SHIFT, 0)
+    field(out, c, 1, shift - 1, Refusal::Unfit(LR_UNIT_SHIFT, 0, 0))
 }
 
 fn small_shift(out: &mut [u8], c: Cursor, shift: u32) -> Step
@@ -30,7 +30,7 @@ fn small_shift(out: &mut [u8], c: Cursor, shift: u32) -> Step
     let Step::Next(c) = s else {
         return s;
     };
-    f(out, c, 1, shift - 1, LR_UNIT_SHIFT, 0)
+    field(out, c, 1, shift - 1, Refusal::Unfit(LR_UNIT_SHIFT, 0, 0))
 }
 
 fn unit_shift(out: &mut [u8], c: Cursor, large: bool, shift: u32) -> Step

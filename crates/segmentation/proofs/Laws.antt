@@ -6,12 +6,13 @@ use native.Mathlib.Omega.{arith}
 use lib.Dec.{ltb}
 use lib.IntN.{ℤ, pos, negsuc, negℤ}
 use lib.Signed.{_≤ℤ_}
-use Rattle.bits.specs.Codec.{f, recode}
+use Rattle.bits.specs.Widths.{bitLength}
 use Rattle.bits.specs.Codes.{su}
 use Rattle.bits.specs.Elements.{feature-enabled, feature-data}
 use Rattle.bits.specs.Lawful.{loose, Lawful}
-use Rattle.bits.proofs.Laws.{via-law, recode-law, choose-law}
-use Rattle.bits.proofs.Leaves.{codec-laws, f-law, f-fits, inferredFlag-law, array-law}
+use Rattle.bits.specs.declared.answer.Refusal.the-variants.{Unfit}
+use Rattle.bits.proofs.Laws.{via-law, choose-law}
+use Rattle.bits.proofs.Leaves.{codec-laws, fieldAs-law, inferredFlag-law, array-law}
 use Rattle.bits.proofs.CodeLaws.{su-law}
 use Rattle.parts.specs.Codes.{natural-out, natural, clip}
 use Rattle.segmentation.specs.Segmentation.{feature-bits, feature-max, signed-value, unsigned-value, feature-value, feature, features, no-flags, no-data, no-features, features-if, temporal-update, coded-updates, inferred-updates, with-reference, without-reference, enabled-params, segmentation-table, segmentation-out, segmentation-in, segmentation-params}
@@ -26,15 +27,15 @@ natural-there n (pos m) h = refl
 natural-there n (negsuc m) h = absurd (omega arith)
 
 natural-law : (n e i : ℕ) → Lawful loose (natural n e i)
-unfolding natural f
-natural-law n e i = recode-law (natural-out n) pos (f-law n e i) (λ v bs s. refl) (λ z bs s. natural-there n z (f-fits n e i (natural-out n z) bs s))
+unfolding natural
+natural-law n e i = fieldAs-law n (natural-out n) pos (λ z. Unfit e i (bitLength (natural-out n z))) (λ v h. refl) (natural-there n)
 
 signed-law : (n : ℕ) (limit : ℤ) (i : ℕ) → pos 0 ≤ℤ limit → Lawful loose (signed-value n limit i)
-unfolding signed-value su recode
+unfolding signed-value su
 signed-law n limit i h = trimmed-law (clip (negℤ limit) limit) (su-law (n + 1) feature-data i) (λ z. refl) (clip-clip (negℤ limit) limit (signed-order limit h))
 
 unsigned-law : (n : ℕ) (limit : ℤ) (i : ℕ) → pos 0 ≤ℤ limit → Lawful loose (unsigned-value n limit i)
-unfolding unsigned-value natural recode
+unfolding unsigned-value natural
 unsigned-law n limit i h = trimmed-law (clip (pos 0) limit) (natural-law n feature-data i) (λ z. refl) (clip-clip (pos 0) limit (unsigned-order limit h))
 
 value-law : (j i : ℕ) → Lawful loose (feature-value j i)

@@ -12,12 +12,14 @@ use mir.Syntax.{w16, w32}
 use mir.Val.{Fits, SFits, toZ, ofZ}
 use borrow.Author.Tests.{leb-true, lt-ltb, le-ltb}
 use Rattle.bits.specs.Bits.{toBits}
-use Rattle.bits.specs.Walk.{field, wrote, run, Walked}
-use Rattle.bits.specs.Codec.{_▷_, f, flag, absent, recode, choose}
+use Rattle.bits.specs.Walk.{field, unsigned, wrote, run, Walked}
+use Rattle.bits.specs.Codec.{_▷_, flag, absent, choose}
 use Rattle.bits.specs.Codes.{su, su-out}
 use Rattle.bits.specs.Elements.{feature-data}
 use Rattle.bits.specs.declared.answer.Cursor.{Cursor}
+use Rattle.bits.specs.declared.answer.Refusal.{Refusal}
 use Rattle.bits.specs.declared.answer.Step.{Step}
+use Rattle.bits.proofs.Leaves.{field-run}
 use Rattle.bits.proofs.Walking.{yes-lt, no-lt}
 use Rattle.bits.proofs.Signs.{cast-mag}
 use Rattle.parts.specs.Codes.{clip, trimmed, natural, natural-out, zip}
@@ -26,7 +28,7 @@ use Rattle.segmentation.specs.Segmentation.{feature-bits, feature-max, s
 use Rattle.segmentation.proofs.Clipping.{clip-signed, clip-unsigned, plain}
 use Rattle.parts.proofs.Signs.{word, su-run}
 use Rattle.parts.proofs.Pairs.{zip-at}
-use Rattle.parts.proofs.Packing.{field-run, double, flag-field}
+use Rattle.parts.proofs.Packing.{double, flag-field}
 
 -- A test of a whole table, and what it says of each entry.
 every : {A : Type 0} → (A → Bool) → List A → Bool
@@ -67,8 +69,8 @@ module _ (bits : ℕ) (limit v r : ℤ) (i : ℕ) (p : pos 0 ≤ℤ limit) (f : 
       rw (← (clip-signed limit p f v r g e)) (rw (k, word w16 r m) at w)
 
   pub unsigned-by : {c : Cursor} {xs ys : List ℕ} {s : Step} → mag r < 32768 → r ≡ clip (pos 0) (toZ w16 (ofZ w16 limit)) (toZ w16 (ofZ w16 v))
-      → Walked (field bits (natAbs (toZ w16 (ofZ w16 r))) feature-data i) c xs s ys → Walked (unsigned-value bits limit i .enc v) c xs s ys
-  unfolding unsigned-value trimmed natural recode f
+      → Walked (unsigned bits (natAbs (toZ w16 (ofZ w16 r))) feature-data i) c xs s ys → Walked (unsigned-value bits limit i .enc v) c xs s ys
+  unfolding unsigned-value trimmed natural
   unsigned-by m e w = rw (out-plain bits (clip (pos 0) limit v) (plain limit v p)) (rw (word w16 r m, clip-unsigned limit p f v r g e) at w)
 
 -- what is clipped so is cast to 32 bits
@@ -118,10 +120,10 @@ signed-run j i half code v h b e l =
     rw (lt-ltb j 5 b) (su-run (feature-bits j + 1) code feature-data i (clip (negℤ (feature-max j)) (feature-max j) v) (rw (lt-ltb j 5 b) at e) (rw (double (feature-bits j) half h) l))
 
 unsigned-run : (j i half code : ℕ) (v : ℤ) → half ≡ 2 ^ feature-bits j → 5 ≤ j → code ≡ value-code j v → code < half → run (feature-value j i .enc v) ≡ wrote (toBits (feature-bits j) code)
-unfolding value-code feature-value choose unsigned-value trimmed natural recode f run
+unfolding value-code feature-value choose unsigned-value trimmed natural run
 unsigned-run j i half code v h b e l =
     let q : natural-out (feature-bits j) (clip (pos 0) (feature-max j) v) ≡ code = out-plain (feature-bits j) (clip (pos 0) (feature-max j) v) (plain (feature-max j) v (max-plain j)) ∙ sym (rw (le-ltb j 5 b) at e) in
-    rw (le-ltb j 5 b, q) (field-run (feature-bits j) code feature-data i (rw (← h) l))
+    rw (le-ltb j 5 b, q) (field-run (feature-bits j) code _ (rw (← h) l))
 
 -- the power of the table's bits
 half-is : (j bits half : ℕ) → bits ≡ feature-bits j → half ≡ 2 ^ bits → half ≡ 2 ^ feature-bits j
@@ -131,15 +133,15 @@ pub apart : (on : Bool) (v : ℤ) (i : ℕ) {c : Cursor} {xs ys : List ℕ} {s :
 apart on v i m g = rw (word w16 v m) at g
 
 -- the whole of a feature that is enabled
-module _ (on : Bool) (v : ℤ) (i bits half code : ℕ) {e k : ℕ} {c : Cursor} {xs ys : List ℕ} {s : Step} (t : on ≡ true) (m : mag v < 32768) (b : bits ≡ feature-bits (i % 8)) (h : half ≡ 2 ^ bits) (q : code ≡ value-code (i % 8) (toZ w16 (ofZ w16 v))) where
-  pub packed-signed : i % 8 < 5 → code < half * 2 → Walked (field (bits + 2) (half * 2 + code) e k) c xs s ys → Walked (feature i .enc (on, v)) c xs s ys
+module _ (on : Bool) (v : ℤ) (i bits half code : ℕ) {r : Refusal} {c : Cursor} {xs ys : List ℕ} {s : Step} (t : on ≡ true) (m : mag v < 32768) (b : bits ≡ feature-bits (i % 8)) (h : half ≡ 2 ^ bits) (q : code ≡ value-code (i % 8) (toZ w16 (ofZ w16 v))) where
+  pub packed-signed : i % 8 < 5 → code < half * 2 → Walked (field (bits + 2) (half * 2 + code) r) c xs s ys → Walked (feature i .enc (on, v)) c xs s ys
   unfolding feature _▷_ choose flag absent run
   packed-signed j l g =
       let n : bits + 2 ≡ bits + 1 + 1 = omega arith in
       let x = rw (← b) at (signed-run (i % 8) i half code v (half-is (i % 8) bits half b h) j (q ∙ ap (value-code (i % 8)) (word w16 v m)) l) in
       rw t (flag-field (bits + 1) (half * 2) code (sym (double bits half h)) x l (rw n at g))
 
-  pub packed-unsigned : 5 ≤ i % 8 → code < half → Walked (field (bits + 1) (half + code) e k) c xs s ys → Walked (feature i .enc (on, v)) c xs s ys
+  pub packed-unsigned : 5 ≤ i % 8 → code < half → Walked (field (bits + 1) (half + code) r) c xs s ys → Walked (feature i .enc (on, v)) c xs s ys
   unfolding feature _▷_ choose flag absent run
   packed-unsigned j l g =
       let x = rw (← b) at (unsigned-run (i % 8) i half code v (half-is (i % 8) bits half b h) j (q ∙ ap (value-code (i % 8)) (word w16 v m)) l) in

@@ -8,11 +8,11 @@ use lib.ListN.{length, length-append}
 use lib.Dec.{lit≤}
 use Rattle.bits.specs.Bits.{Bits}
 use Rattle.bits.specs.Walk.{Walk, _⊕_, Out, wrote, run, bound}
-use Rattle.bits.specs.Codec.{Codec, _▷_, choose, select, via, allowed, within, checked, f, flag, absent, inferred, inferredFlag, array, uncons, recode}
-use Rattle.bits.specs.Codes.{uvlc, unary}
+use Rattle.bits.specs.Codec.{Codec, _▷_, choose, select, via, allowed, within, checked, f, flag, absent, inferred, inferredFlag, array, uncons}
+use Rattle.bits.specs.Codes.{uvlc}
 use Rattle.bits.proofs.Laws.{join-inv}
 use Rattle.bits.proofs.Leaves.{f-fits}
-use Rattle.bits.proofs.CodeLaws.{top-most}
+use Rattle.bits.proofs.Widths.{up-to-most}
 use Rattle.bits.proofs.Walking.{bounded}
 use Rattle.obu.proofs.Writing.{Few}
 use Rattle.sequence.specs.declared.record.DecoderModelInfo.{DecoderModelInfo}
@@ -68,15 +68,15 @@ reduced-bound v = omega (arith, array-bound no-point (λ _. reduced-point) 40 (�
 
 -- the timing, and the width of the delays where a model is written
 timing-bound : (t : Timing) → bound (timing .enc t) ≤ 300
-unfolding timing timing-info-if timing-info ticks-per-picture uvlc unary recode flag-if decoder-model-info-if decoder-model-info via _▷_ choose select absent f flag inferredFlag bound
-timing-bound t = omega (arith, top-most 32 (t .«timing_info» .«num_ticks_per_picture_minus_1» + 1))
+unfolding timing timing-info-if timing-info ticks-per-picture uvlc flag-if decoder-model-info-if decoder-model-info via _▷_ choose select absent f flag inferredFlag bound
+timing-bound t = omega (arith, up-to-most 33 (t .«timing_info» .«num_ticks_per_picture_minus_1» + 1))
 
 model-width : (present : Bool) (d : DecoderModelInfo) (x : Bits) → decoder-model-info-if present .spells d x → decoder-model-info-if present .coded d .«buffer_delay_length_minus_1» < 32
 unfolding decoder-model-info-if choose absent decoder-model-info via _▷_ f
 model-width true d x s = f-fits 5 14 0 _ _ (s .2)
 model-width false d x s = omega arith
 
-timing-width : (t : Timing) (x : Bits) → timing .spells t x → timing .coded t .«decoder_model_info» .«buffer_delay_length_minus_1» < 32
+pub timing-width : (t : Timing) (x : Bits) → timing .spells t x → timing .coded t .«decoder_model_info» .«buffer_delay_length_minus_1» < 32
 unfolding timing via _▷_
 timing-width t x s = model-width _ _ _ (s .3 .3 .3)
 

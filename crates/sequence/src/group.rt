@@ -32,8 +32,8 @@ pub struct Points {
 }
 
 pub struct FrameSize {
-    pub frame_width_bits_minus_1: u8,
-    pub frame_height_bits_minus_1: u8,
+    pub frame_width_bits_minus_1: u32,
+    pub frame_height_bits_minus_1: u32,
     pub max_frame_width_minus_1: u32,
     pub max_frame_height_minus_1: u32,
 }
@@ -62,7 +62,7 @@ pub struct Choice {
 }
 
 pub struct HintBits {
-    pub order_hint_bits_minus_1: u8,
+    pub order_hint_bits_minus_1: u32,
     pub order_hint_bits: u32,
 }
 

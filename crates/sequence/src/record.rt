@@ -11,7 +11,7 @@ pub struct TimingInfo {
 
 // 5.5.4
 pub struct DecoderModelInfo {
-    pub buffer_delay_length_minus_1: u8,
+    pub buffer_delay_length_minus_1: u32,
     pub num_units_in_decoding_tick: u32,
     pub buffer_removal_time_length_minus_1: u32,
     pub frame_presentation_time_length_minus_1: u32,
@@ -72,8 +72,8 @@ pub struct SequenceHeaderObu {
     pub initial_display_delay_present_flag: bool,
     pub operating_points_cnt_minus_1: u32,
     pub operating_points: [OperatingPoint; 32],
-    pub frame_width_bits_minus_1: u8,
-    pub frame_height_bits_minus_1: u8,
+    pub frame_width_bits_minus_1: u32,
+    pub frame_height_bits_minus_1: u32,
     pub max_frame_width_minus_1: u32,
     pub max_frame_height_minus_1: u32,
     pub frame_id_numbers_present_flag: bool,
@@ -93,7 +93,7 @@ pub struct SequenceHeaderObu {
     pub seq_force_screen_content_tools: u32,
     pub seq_choose_integer_mv: bool,
     pub seq_force_integer_mv: u32,
-    pub order_hint_bits_minus_1: u8,
+    pub order_hint_bits_minus_1: u32,
     pub order_hint_bits: u32,
     pub enable_superres: bool,
     pub enable_cdef: bool,

@@ -13,7 +13,7 @@ use obu::write::*;
 use writer::*;
 ghost use mathlib.Core.Path.{_≡_};
 ghost use mathlib.Core.List.{_++_};
-ghost use Prim.Native.Nat.{_+_, _≤_};
+ghost use Prim.Native.Nat.{_+_, _<_, _≤_};
 ghost use lib.ListN.{length};
 ghost use Rattle.bits.specs.Walk.{Walked, _⊕_};
 ghost use Rattle.sequence.specs.Fields.{general-out, color-and-grain-out, tools-and-color-out, body-out, sequence-out};
@@ -34,12 +34,13 @@ fn profile(out: &mut [u8], c: Cursor, v: u32) -> Step
     demand(out, c, v <= 2, element::SEQ_PROFILE, 0)
 }
 
-// The width of the buffer delays, where a decoder model is coded.
+// The width of the buffer delays, once the timing is written: where a decoder model is coded, it says it.
 fn delay_width(has_model: bool, d: DecoderModelInfo) -> u32
+    requires { ⌜ decoder-model-info-if «has_model» .coded d .«buffer_delay_length_minus_1» < 32 ⌝ }
     ensures { λ r. ⌜ r ≡ decoder-model-info-if «has_model» .coded d .«buffer_delay_length_minus_1» + 1 ⌝ }
 {
     if has_model {
-        return d.buffer_delay_length_minus_1 as u32 + 1;
+        return d.buffer_delay_length_minus_1 + 1;
     }
     1
 }
@@ -47,13 +48,13 @@ fn delay_width(has_model: bool, d: DecoderModelInfo) -> u32
 fn full_general(out: &mut [u8], c: Cursor, h: SequenceHeaderObu) -> Step
     ensures { λ s. ⌜ Walked (full-general .enc (general-out h)) c (now (out .entry)) s (now (out .exit)) ⌝ }
 {
-    let d = h.decoder_model_info;
-    let width = delay_width(h.decoder_model_info_present_flag, d);
     let s = timing(out, c, h);
     let Step::Next(c) = s else {
         return s;
     };
-    points(out, c, h.decoder_model_info_present_flag, width, h)
+    let has_model = h.decoder_model_info_present_flag;
+    let width = delay_width(has_model, h.decoder_model_info);
+    points(out, c, has_model, width, h)
 }
 
 fn reduced_general(out: &mut [u8], c: Cursor, h: SequenceHeaderObu) -> Step

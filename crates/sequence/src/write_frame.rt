@@ -4,51 +4,65 @@ use crate::record::SequenceHeaderObu;
 use bits::answer::*;
 use bits::element;
 use writer::*;
+ghost use mathlib.Core.Path.{_≡_};
+ghost use Prim.Native.Nat.{_<_};
 ghost use Rattle.bits.specs.Walk.{Walked, demand as demanded};
 ghost use Rattle.bits.specs.declared.answer.Refusal.the-variants.{Inconsistent};
 ghost use Rattle.sequence.specs.Fields.{frame-size-of, frame-ids-of};
 ghost use Rattle.sequence.specs.Frame.{max-frame-size, frame-size-fields, bits-hold, frame-size, frame-ids};
 
-fn bits_hold(out: &mut [u8], c: Cursor, bits_minus_1: u8, size: u32, element: u8) -> Step
+// Whether a size has at most the bits that its bit count minus 1 says.
+fn holds(bits_minus_1: u32, size: u32) -> bool
+    ensures { λ r. ⌜ r ≡ bits-hold «bits_minus_1» size ⌝ }
+{
+    if bits_minus_1 < 31 {
+        fits(size, bits_minus_1 + 1)
+    } else {
+        true
+    }
+}
+
+fn bits_hold(out: &mut [u8], c: Cursor, bits_minus_1: u32, size: u32, element: u8) -> Step
     ensures { λ s. ⌜ Walked (demanded (bits-hold «bits_minus_1» size) (Inconsistent element 0)) c (now (out .entry)) s (now (out .exit)) ⌝ }
 {
-    demand(out, c, fits(size, bits_minus_1 as u32 + 1), element, 0)
+    demand(out, c, holds(bits_minus_1, size), element, 0)
 }
 
 fn max_frame_size(
     out: &mut [u8],
     c: Cursor,
-    width_bits: u8,
-    height_bits: u8,
+    width_bits: u32,
+    height_bits: u32,
     width: u32,
     height: u32,
 ) -> Step
+    requires { ⌜ («width_bits» < 16) × («height_bits» < 16) ⌝ }
     ensures { λ s. ⌜ Walked (max-frame-size «width_bits» «height_bits» .enc (width, height)) c (now (out .entry)) s (now (out .exit)) ⌝ }
 {
-    let s = f(out, c, width_bits as u32 + 1, width, 0, 0);
+    let s = f(out, c, width_bits + 1, width, 0, 0);
     let Step::Next(c) = s else {
         return s;
     };
-    f(out, c, height_bits as u32 + 1, height, 0, 0)
+    f(out, c, height_bits + 1, height, 0, 0)
 }
 
 fn frame_size_fields(
     out: &mut [u8],
     c: Cursor,
-    width_bits: u8,
-    height_bits: u8,
+    width_bits: u32,
+    height_bits: u32,
     width: u32,
     height: u32,
 ) -> Step
     ensures { λ s. ⌜ Walked (frame-size-fields .enc («width_bits», («height_bits», (width, height)))) c (now (out .entry)) s (now (out .exit)) ⌝ }
 {
     let e = element::FRAME_WIDTH_BITS_MINUS_1;
-    let s = f(out, c, 4, width_bits as u32, e, 0);
+    let s = f(out, c, 4, width_bits, e, 0);
     let Step::Next(c) = s else {
         return s;
     };
     let e = element::FRAME_HEIGHT_BITS_MINUS_1;
-    let s = f(out, c, 4, height_bits as u32, e, 0);
+    let s = f(out, c, 4, height_bits, e, 0);
     let Step::Next(c) = s else {
         return s;
     };

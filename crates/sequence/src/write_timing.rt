@@ -43,7 +43,7 @@ fn decoder_model_info(out: &mut [u8], c: Cursor, d: DecoderModelInfo) -> Step
         out,
         c,
         5,
-        d.buffer_delay_length_minus_1 as u32,
+        d.buffer_delay_length_minus_1,
         element::BUFFER_DELAY_LENGTH_MINUS_1,
         0,
     );

@@ -60,17 +60,17 @@ fn integer_mv(out: &mut [u8], c: Cursor, screen: u32, seq_choose: bool, seq_forc
     no_choice(out, c, seq_choose, seq_force, e)
 }
 
-fn hint_bits(out: &mut [u8], c: Cursor, order_hint: bool, minus_1: u8, bits: u32) -> Step
+fn hint_bits(out: &mut [u8], c: Cursor, order_hint: bool, minus_1: u32, bits: u32) -> Step
     ensures { λ s. ⌜ Walked (hint-bits «order_hint» .enc (hint-bits-in («minus_1», bits))) c (now (out .entry)) s (now (out .exit)) ⌝ }
 {
     if order_hint {
         let e = element::ORDER_HINT_BITS_MINUS_1;
-        let s = f(out, c, 3, minus_1 as u32, e, 0);
+        let s = f(out, c, 3, minus_1, e, 0);
         let Step::Next(c) = s else {
             return s;
         };
         let e = element::ORDER_HINT_BITS;
-        return demand(out, c, bits == minus_1 as u32 + 1, e, 0);
+        return demand(out, c, bits == minus_1 + 1, e, 0);
     }
     demand(out, c, bits == 0, element::ORDER_HINT_BITS, 0)
 }

@@ -1,7 +1,7 @@
 -- The record, field by field.
 use mathlib.Core.Path.{_≡_, sym, ap, _∙_}
 use mathlib.Core.List.{List}
-use Prim.Native.Nat.{ℕ, zero, suc, _+_, _*_, _^_, _<_, _≤_}
+use Prim.Native.Nat.{ℕ, zero, suc, _+_, _*_, _<_, _≤_}
 use native.Mathlib.Omega.{arith}
 use lib.ListN.{take, getD}
 use lib.Seq.{getD-take}
@@ -26,12 +26,9 @@ use Rattle.fill.specs.Fills as layout
 use Rattle.sequence_reader.specs.Layouts as row
 use Rattle.sequence_reader.specs.Layouts.{record-of}
 use Rattle.numbers.specs.Numbers.{at, flag-at, each}
-use Rattle.numbers.specs.Held.{byte}
-use Rattle.sequence_numbers.specs.Held.{held-model, held-header}
 use Rattle.sequence_reader.specs.Places.{sequence, general, model-present, points, frame-size, max-frame-size, frame-ids, tools, inter-tools, order-tools, hint-tools, motion-tools, hint-bits, filter-tools, film-grain}
 use Rattle.sequence_numbers.specs.Groups.{header-of, timing-of, model-of, point-of, color-of, used}
 use Rattle.numbers.proofs.Filling.{getD-each}
-use Rattle.sequence_numbers.proofs.Given.{header-given}
 
 -- an item of an array that has a place
 place-each : {A M : Type 0} (z : A) (l : ℕ → layout.Layout M A) (n : ℕ) (m : M) (k j i : ℕ) → i < k → j + i < n → getD (layout.each z l k j n .get m) i z ≡ l (j + i) .get m
@@ -48,8 +45,8 @@ walked-unused h ps qs same = rw (same-coded sequence-header-obu-law (sequence-ou
 
 -- the sequence header's record as the code makes it
 module _ (xs : List ℕ) where
-  abbrev made : ObuHeader → TimingInfo → DecoderModelInfo → List OperatingPoint → ColorConfig → ℕ → ℕ → ℕ → ℕ → ℕ → SequenceHeaderObu
-  made h t m ps k w v x y b = record {
+  abbrev made : ObuHeader → TimingInfo → DecoderModelInfo → List OperatingPoint → ColorConfig → SequenceHeaderObu
+  made h t m ps k = record {
     «obu_header» = h;
     «seq_profile» = at xs sequence;
     «still_picture» = flag-at xs (sequence + 1);
@@ -61,10 +58,10 @@ module _ (xs : List ℕ) where
     «initial_display_delay_present_flag» = flag-at xs points;
     «operating_points_cnt_minus_1» = at xs (points + 1);
     «operating_points» = ps;
-    «frame_width_bits_minus_1» = w;
-    «frame_height_bits_minus_1» = v;
-    «max_frame_width_minus_1» = x;
-    «max_frame_height_minus_1» = y;
+    «frame_width_bits_minus_1» = at xs frame-size;
+    «frame_height_bits_minus_1» = at xs (frame-size + 1);
+    «max_frame_width_minus_1» = at xs max-frame-size;
+    «max_frame_height_minus_1» = at xs (max-frame-size + 1);
     «frame_id_numbers_present_flag» = flag-at xs frame-ids;
     «delta_frame_id_length_minus_2» = at xs (frame-ids + 1);
     «additional_frame_id_length_minus_1» = at xs (frame-ids + 2);
@@ -82,7 +79,7 @@ module _ (xs : List ℕ) where
     «seq_force_screen_content_tools» = at xs (motion-tools + 1);
     «seq_choose_integer_mv» = flag-at xs (motion-tools + 2);
     «seq_force_integer_mv» = at xs (motion-tools + 3);
-    «order_hint_bits_minus_1» = b;
+    «order_hint_bits_minus_1» = at xs hint-bits;
     «order_hint_bits» = at xs (hint-bits + 1);
     «enable_superres» = flag-at xs filter-tools;
     «enable_cdef» = flag-at xs (filter-tools + 1);
@@ -91,24 +88,18 @@ module _ (xs : List ℕ) where
     «film_grain_params_present» = flag-at xs film-grain;
   }
 
-  -- its walk is that of the numbers given: it looks at the points that are used, and the fields that are held in 8 bits are written as those given
-  pub record-given : (ps : List OperatingPoint) {h : ObuHeader} {t : TimingInfo} {m : DecoderModelInfo} {k : ColorConfig} {w v x y b : ℕ}
+  -- its walk is that of the numbers given: it looks at the points that are used
+  pub record-given : (ps : List OperatingPoint) {h : ObuHeader} {t : TimingInfo} {m : DecoderModelInfo} {k : ColorConfig}
       → h ≡ header-of xs
       → t ≡ timing-of xs
-      → m ≡ held-model (model-of xs)
+      → m ≡ model-of xs
       → take (used (at xs 19)) ps ≡ each (used (at xs 19)) (point-of xs)
       → k ≡ color-of xs
-      → w ≡ byte (at xs frame-size)
-      → v ≡ byte (at xs (frame-size + 1))
-      → (x ≡ at xs max-frame-size) × (at xs max-frame-size < 2 ^ 32)
-      → (y ≡ at xs (max-frame-size + 1)) × (at xs (max-frame-size + 1) < 2 ^ 32)
-      → b ≡ byte (at xs hint-bits)
-      → run (sequence-header .enc (made h t m ps k w v x y b)) ≡ run (sequence-header .enc (record-of xs))
+      → run (sequence-header .enc (made h t m ps k)) ≡ run (sequence-header .enc (record-of xs))
   unfolding record-of layout.of layout.at layout._▸_ layout._▹_ layout.nowhere
-  record-given ps h t m e k w v x y b =
-      (λ i. run (sequence-header .enc (made (h i) (t i) (m i) ps (k i) (w i) (v i) (x .0 i) (y .0 i) (b i)))) ∙
-      walked-unused (held-header (record-of xs)) ps (record-of xs .«operating_points») same ∙
-      header-given (record-of xs) (x .1) (y .1)
+  record-given ps h t m e k =
+      (λ i. run (sequence-header .enc (made (h i) (t i) (m i) ps (k i)))) ∙
+      walked-unused (record-of xs) ps (record-of xs .«operating_points») same
     where
       same : (i : ℕ) → i < 32 → i ≤ at xs 19 → getD ps i no-point ≡ getD (row.operating-points 20 (at xs 19 + 1) .get xs) i no-point
       same i l u =

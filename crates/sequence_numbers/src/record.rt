@@ -1,15 +1,12 @@
 // The sequence header's record from its numbers.
 use crate::header::obu_header;
 use crate::points::operating_points;
-use numbers::byte;
-use numbers::word;
 use sequence::record::*;
 use sequence_reader::place;
 ghost use mathlib.Core.Path.{_≡_};
 ghost use Rattle.bits.specs.Walk.{run};
 ghost use Rattle.sequence.specs.Sequence.{sequence-header};
 ghost use Rattle.sequence_reader.specs.Layouts.{record-of};
-ghost use Rattle.sequence_numbers.specs.Held.{held-model};
 ghost use Rattle.sequence_numbers.specs.Groups.{timing-of, model-of, color-of};
 
 fn timing_info(n: &[u32; 347]) -> TimingInfo
@@ -24,10 +21,10 @@ fn timing_info(n: &[u32; 347]) -> TimingInfo
 }
 
 fn decoder_model_info(n: &[u32; 347]) -> DecoderModelInfo
-    ensures { λ r. ⌜ r ≡ held-model (model-of (now (n .entry))) ⌝ }
+    ensures { λ r. ⌜ r ≡ model-of (now (n .entry)) ⌝ }
 {
     DecoderModelInfo {
-        buffer_delay_length_minus_1: byte(n[place::BUFFER_DELAY_LENGTH_MINUS_1]),
+        buffer_delay_length_minus_1: n[place::BUFFER_DELAY_LENGTH_MINUS_1],
         num_units_in_decoding_tick: n[place::NUM_UNITS_IN_DECODING_TICK],
         buffer_removal_time_length_minus_1: n[place::BUFFER_REMOVAL_TIME_LENGTH_MINUS_1],
         frame_presentation_time_length_minus_1: n[place::FRAME_PRESENTATION_TIME_LENGTH_MINUS_1],
@@ -80,10 +77,10 @@ pub fn sequence_header(n: &[u32; 347]) -> SequenceHeaderObu
         initial_display_delay_present_flag: n[place::INITIAL_DISPLAY_DELAY_PRESENT_FLAG] != 0,
         operating_points_cnt_minus_1: n[place::OPERATING_POINTS_CNT_MINUS_1],
         operating_points,
-        frame_width_bits_minus_1: byte(n[place::FRAME_WIDTH_BITS_MINUS_1]),
-        frame_height_bits_minus_1: byte(n[place::FRAME_HEIGHT_BITS_MINUS_1]),
-        max_frame_width_minus_1: word(n[place::MAX_FRAME_WIDTH_MINUS_1]),
-        max_frame_height_minus_1: word(n[place::MAX_FRAME_HEIGHT_MINUS_1]),
+        frame_width_bits_minus_1: n[place::FRAME_WIDTH_BITS_MINUS_1],
+        frame_height_bits_minus_1: n[place::FRAME_HEIGHT_BITS_MINUS_1],
+        max_frame_width_minus_1: n[place::MAX_FRAME_WIDTH_MINUS_1],
+        max_frame_height_minus_1: n[place::MAX_FRAME_HEIGHT_MINUS_1],
         frame_id_numbers_present_flag: n[place::FRAME_ID_NUMBERS_PRESENT_FLAG] != 0,
         delta_frame_id_length_minus_2: n[place::DELTA_FRAME_ID_LENGTH_MINUS_2],
         additional_frame_id_length_minus_1: n[place::ADDITIONAL_FRAME_ID_LENGTH_MINUS_1],
@@ -101,7 +98,7 @@ pub fn sequence_header(n: &[u32; 347]) -> SequenceHeaderObu
         seq_force_screen_content_tools: n[place::SEQ_FORCE_SCREEN_CONTENT_TOOLS],
         seq_choose_integer_mv: n[place::SEQ_CHOOSE_INTEGER_MV] != 0,
         seq_force_integer_mv: n[place::SEQ_FORCE_INTEGER_MV],
-        order_hint_bits_minus_1: byte(n[place::ORDER_HINT_BITS_MINUS_1]),
+        order_hint_bits_minus_1: n[place::ORDER_HINT_BITS_MINUS_1],
         order_hint_bits: n[place::ORDER_HINT_BITS],
         enable_superres: n[place::ENABLE_SUPERRES] != 0,
         enable_cdef: n[place::ENABLE_CDEF] != 0,

@@ -5,7 +5,9 @@ use mathlib.Core.Logic.{_⊎_, inl, inr}
 use Prim.Native.Nat.{ℕ, _+_, _^_, _≤_, _<_}
 use native.Mathlib.Omega.{arith}
 use lib.Dec.{eqb}
+use lib.Pow.{pow-mono}
 use borrow.Author.Tests.{lt-ltb, le-ltb, ne-eqb}
+use Rattle.bits.specs.Widths.{bitLength}
 use Rattle.bits.specs.Elements.{frame-width-bits-minus-1, frame-height-bits-minus-1, twelve-bit}
 use Rattle.bits.specs.Walk.{End, done, refused, Out, run, join}
 use Rattle.bits.specs.Codec.{_▷_, choose, select, via, allowed, within, checked, f, flag, zeros, absent, inferred, inferredFlag, array}
@@ -15,6 +17,7 @@ use Rattle.obu.specs.Header.{expected-type, header-end, header-table, obu-heade
 use Rattle.obu.specs.Framing.{framed}
 use Rattle.obu.specs.Obu.{obu}
 use Rattle.obu.specs.Demand3.{Consistent}
+use Rattle.bits.proofs.Widths.{bit-holds, bit-least, bit-more, bit-is}
 use Rattle.obu.proofs.Framing.{obu-total}
 use Rattle.obu.proofs.Writing.{wrote-all}
 use Rattle.sequence.specs.Fields.{sequence-out, frame-size-of}
@@ -27,36 +30,38 @@ use Rattle.sequence.specs.Color.{color-values, color-description, sampling, oth
 use Rattle.sequence.specs.Sequence.{profile, full-general, general, color-and-grain, tools-and-color, body, sequence-header-obu, sequence-header}
 use Rattle.sequence.proofs.Counts.{few}
 use Rattle.starter.specs.Video.{minus-1, bits-minus-1, video}
-use Rattle.starter.proofs.TopBits as top
 
 -- The frame's size, minus 1: its bit counts always count it, and fit their fields where it is below 65,536.
 abbrev size-end : ℕ → ℕ → ℕ → End
 size-end w h d = run (frame-size .enc (frame-size-of (video w h d))) .end
 
-below : (size : ℕ) → minus-1 size < 2 ^ 33
-below size = omega arith
-
 counts : (size : ℕ) → minus-1 size < 2 ^ (bits-minus-1 size + 1)
-counts size = top.holds 32 (minus-1 size) (below size)
+counts size =
+    let k : 2 ^ bitLength (minus-1 size) ≤ 2 ^ (bits-minus-1 size + 1) = pow-mono (omega arith) in
+    omega (arith, bit-holds (minus-1 size))
 
 fits : (size : ℕ) → minus-1 size < 65536 → bits-minus-1 size < 16
-fits size h = omega (arith, top.few 32 15 (minus-1 size) h)
+fits size h = omega (arith, bit-least (minus-1 size) 16 h)
 
 unfit : (size : ℕ) → 65536 ≤ minus-1 size → 16 ≤ bits-minus-1 size
-unfit size h = top.many 32 16 (minus-1 size) (below size) h
+unfit size h = omega (arith, bit-more (minus-1 size) 16 h)
+
+-- a count that does not fit needs five bits
+five : (size : ℕ) → 65536 ≤ minus-1 size → bitLength (bits-minus-1 size) ≡ 5
+five size h = bit-is (bits-minus-1 size) 4 (unfit size h) (omega (arith, bit-least (minus-1 size) 32 (omega arith)))
 
 module _ (w h d : ℕ) where
   pub size-done : minus-1 w < 65536 → minus-1 h < 65536 → size-end w h d ≡ done
   unfolding video frame-size frame-size-fields max-frame-size checked via _▷_ f run join
   size-done p q = rw (size-end, lt-ltb _ _ (counts w), lt-ltb _ _ (counts h), lt-ltb _ 16 (fits w p), lt-ltb _ 16 (fits h q))
 
-  pub size-wide : 65536 ≤ minus-1 w → size-end w h d ≡ refused (Unfit frame-width-bits-minus-1 0)
+  pub size-wide : 65536 ≤ minus-1 w → size-end w h d ≡ refused (Unfit frame-width-bits-minus-1 0 5)
   unfolding video frame-size frame-size-fields max-frame-size checked via _▷_ f run join
-  size-wide p = rw (size-end, lt-ltb _ _ (counts w), lt-ltb _ _ (counts h), le-ltb _ 16 (unfit w p))
+  size-wide p = rw (size-end, lt-ltb _ _ (counts w), lt-ltb _ _ (counts h), le-ltb _ 16 (unfit w p), five w p)
 
-  pub size-high : minus-1 w < 65536 → 65536 ≤ minus-1 h → size-end w h d ≡ refused (Unfit frame-height-bits-minus-1 0)
+  pub size-high : minus-1 w < 65536 → 65536 ≤ minus-1 h → size-end w h d ≡ refused (Unfit frame-height-bits-minus-1 0 5)
   unfolding video frame-size frame-size-fields max-frame-size checked via _▷_ f run join
-  size-high p q = rw (size-end, lt-ltb _ _ (counts w), lt-ltb _ _ (counts h), lt-ltb _ 16 (fits w p), le-ltb _ 16 (unfit h q))
+  size-high p q = rw (size-end, lt-ltb _ _ (counts w), lt-ltb _ _ (counts h), lt-ltb _ 16 (fits w p), le-ltb _ 16 (unfit h q), five h q)
 
 -- The depths of a video.
 abbrev pub Depth : ℕ → Type 0

@@ -1,3 +1,2 @@
-pub mod TopBits
 pub mod Ends
 pub mod Starting

@@ -74,12 +74,12 @@ module _ (width height depth : ℕ) where
       let g = consistent-is-written (video width height depth) (video-is-consistent w h d) in
       (g .0, g .1, λ ns o ms a. g .1 .read-back ns a ∙ ap (λ (v : SequenceHeaderObu). R.answer Done (numbers-of v)) (ends.all-coded width height depth d))
 
-  -- Any other width is refused by its bit count, as (2, 21, 0); else any other height, as (2, 22, 0); else any other depth, as (1, 37, 0).
-  pub width-is-refused : NoSize width → Refuses (video width height depth) (Unfit frame-width-bits-minus-1 0)
+  -- Any other width is refused by its bit count, as (2, 21, 0) with a width of 5; else any other height, as (2, 22, 0) with 5; else any other depth, as (1, 37, 0).
+  pub width-is-refused : NoSize width → Refuses (video width height depth) (Unfit frame-width-bits-minus-1 0 5)
   width-is-refused w buffer few _ _ p =
       inconsistent-is-refused _ _ (ends.refused-whole width height depth _ (ends.no-size width height depth _ (ends.size-wide width height depth (large width w)))) buffer few p
 
-  pub height-is-refused : Size width → NoSize height → Refuses (video width height depth) (Unfit frame-height-bits-minus-1 0)
+  pub height-is-refused : Size width → NoSize height → Refuses (video width height depth) (Unfit frame-height-bits-minus-1 0 5)
   height-is-refused w h buffer few _ _ p =
       inconsistent-is-refused _ _ (ends.refused-whole width height depth _ (ends.no-size width height depth _ (ends.size-high width height depth (small width w) (large height h)))) buffer few p
 

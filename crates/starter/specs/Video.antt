@@ -1,10 +1,10 @@
 -- A record to start from: an ordinary video of a width, a height and a bit depth.
 use mathlib.Core.List.{_∷_}
 use mathlib.Core.Bool.{true, false, cond, not, _||_}
-use Prim.Native.Nat.{ℕ, _+_, _%_}
+use Prim.Native.Nat.{ℕ, _+_, _-_, _%_}
 use lib.Dec.{eqb}
 use lib.ListN.{replicate}
-use Rattle.bits.specs.Codes.{topBit}
+use Rattle.bits.specs.Widths.{bitLength}
 use Rattle.sequence.specs.declared.record.OperatingPoint.{OperatingPoint}
 use Rattle.sequence.specs.declared.record.ColorConfig.{ColorConfig}
 use Rattle.sequence.specs.declared.record.SequenceHeaderObu.{SequenceHeaderObu}
@@ -15,9 +15,9 @@ use Rattle.sequence.specs.Points.{no-point}
 abbrev pub minus-1 : ℕ → ℕ
 minus-1 size = (size + 4294967295) % 4294967296
 
--- the fewest bits that hold it, minus 1
+-- the fewest bits that hold it, minus 1; of 0 it is 0
 abbrev pub bits-minus-1 : ℕ → ℕ
-bits-minus-1 size = topBit 32 (minus-1 size)
+bits-minus-1 size = bitLength (minus-1 size) - 1
 
 -- 8 and 10 bits are of profile 0, 12 of profile 2
 abbrev pub profile : ℕ → ℕ

@@ -1,7 +1,9 @@
 // A record to start from, which the writer accepts: an ordinary video.
+use bits::number::bit_length;
 use sequence_reader::place;
 ghost use mathlib.Core.Path.{_≡_};
-ghost use Rattle.bits.specs.Codes.{topBit};
+ghost use Prim.Native.Nat.{_-_};
+ghost use Rattle.bits.specs.Widths.{bitLength};
 ghost use Rattle.sequence_reader.specs.Layouts.{numbers-of};
 ghost use Rattle.starter.specs.Video.{minus-1, profile, video};
 
@@ -14,15 +16,12 @@ fn minus_1(size: u32) -> u32
     if size == 0 { u32::MAX } else { size - 1 }
 }
 
-// The place of the highest one of v, by the zeros above it.
-fn top_bit(v: u32) -> u32
-    ensures { λ r. ⌜ r ≡ topBit 32 v ⌝ }
+// The fewest bits that hold v, minus 1; of 0 it is 0.
+fn bits_minus_1(v: u32) -> u32
+    ensures { λ r. ⌜ r ≡ bitLength v - 1 ⌝ }
 {
-    if v == 0 {
-        0
-    } else {
-        31 - u32::leading_zeros(v)
-    }
+    let length = bit_length(v) as u32;
+    if length == 0 { 0 } else { length - 1 }
 }
 
 fn profile(bit_depth: u32) -> u32
@@ -42,8 +41,8 @@ pub fn video(width: u32, height: u32, bit_depth: u32, numbers: &mut [u32; 347])
     n[place::HAS_SIZE_FIELD] = 1;
     n[place::SEQ_PROFILE] = profile(bit_depth);
     n[FIRST_LEVEL] = 31;
-    n[place::FRAME_WIDTH_BITS_MINUS_1] = top_bit(w);
-    n[place::FRAME_HEIGHT_BITS_MINUS_1] = top_bit(h);
+    n[place::FRAME_WIDTH_BITS_MINUS_1] = bits_minus_1(w);
+    n[place::FRAME_HEIGHT_BITS_MINUS_1] = bits_minus_1(h);
     n[place::MAX_FRAME_WIDTH_MINUS_1] = w;
     n[place::MAX_FRAME_HEIGHT_MINUS_1] = h;
     n[place::USE_128X128_SUPERBLOCK] = 1;

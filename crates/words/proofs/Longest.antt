@@ -1,4 +1,4 @@
--- No sentence is longer than 76 bytes.
+-- No sentence is longer than 104 bytes.
 use mathlib.Core.Bool.{Bool, true, false, cond, _&&_}
 use mathlib.Core.Logic.{⊎-elim}
 use mathlib.Core.List.{List, [], _∷_, _++_}
@@ -10,7 +10,7 @@ use lib.Dec.{T, eqb, ltb, leb, leb→le}
 use lib.ListN.{length, length-append}
 use borrow.Author.Tests.{ltb-true, ltb-false}
 use Rattle.words.specs.Names.{names, element, has-index}
-use Rattle.words.specs.Sentence.{place, needed, plain, sentence}
+use Rattle.words.specs.Sentence.{place, needed, bits-needed, plain, sentence}
 use Rattle.words.specs.Text.{codes, find, digits, decimal}
 use Rattle.words.proofs.Digits.{small, large}
 use Rattle.words.proofs.Found.{either, left, right}
@@ -68,19 +68,29 @@ needed-fits n h =
     either-fits 27 (eqb n 1) (codes "1 byte is needed") (decimal n ++ codes " bytes are needed") (omega arith)
     (omega (arith, digits-of n h, length-append (decimal n) (codes " bytes are needed")))
 
-pub longest : (n first second : ℕ) → n < 2 ^ 32 → first < 2 ^ 32 → second < 2 ^ 32 → length (sentence n first second) ≤ 76
+bits-fits : (w : ℕ) → w < 2 ^ 32 → length (bits-needed w) ≤ 26
+unfolding bits-needed
+bits-fits w h =
+    either-fits 26 (eqb w 0) (codes "no width helps") (cond (eqb w 1) (codes "1 bit is needed") (decimal w ++ codes " bits are needed")) (omega arith)
+    (either-fits 26 (eqb w 1) (codes "1 bit is needed") (decimal w ++ codes " bits are needed") (omega arith)
+    (omega (arith, digits-of w h, length-append (decimal w) (codes " bits are needed"))))
+
+unfit-fits : (w : ℕ) → w < 2 ^ 32 → length (codes " does not fit its field: " ++ bits-needed w) ≤ 51
+unfit-fits w h = rw length-append (omega (arith, bits-fits w h))
+
+pub longest : (n first second third : ℕ) → n < 2 ^ 32 → first < 2 ^ 32 → second < 2 ^ 32 → third < 2 ^ 32 → length (sentence n first second third) ≤ 104
 unfolding sentence plain fits
-longest n first second h k l =
-    either-fits 76 (eqb n 1) (place 1 first second ++ codes " is inconsistent")
-    (cond (eqb n 2) (place 2 first second ++ codes " does not fit its field")
+longest n first second third h k l m =
+    either-fits 104 (eqb n 1) (place 1 first second ++ codes " is inconsistent")
+    (cond (eqb n 2) (place 2 first second ++ (codes " does not fit its field: " ++ bits-needed third))
     (cond (eqb n 3) (codes "the buffer is too short: " ++ needed first)
     (find n plain (codes "this version has no answer " ++ decimal n))))
     (omega (arith, place-fits 1 first second k l, length-append (place 1 first second) (codes " is inconsistent")))
-    (either-fits 76 (eqb n 2) (place 2 first second ++ codes " does not fit its field")
+    (either-fits 104 (eqb n 2) (place 2 first second ++ (codes " does not fit its field: " ++ bits-needed third))
     (cond (eqb n 3) (codes "the buffer is too short: " ++ needed first)
     (find n plain (codes "this version has no answer " ++ decimal n)))
-    (omega (arith, place-fits 2 first second k l, length-append (place 2 first second) (codes " does not fit its field")))
-    (either-fits 76 (eqb n 3) (codes "the buffer is too short: " ++ needed first)
+    (omega (arith, place-fits 2 first second k l, unfit-fits third m, length-append (place 2 first second) (codes " does not fit its field: " ++ bits-needed third)))
+    (either-fits 104 (eqb n 3) (codes "the buffer is too short: " ++ needed first)
     (find n plain (codes "this version has no answer " ++ decimal n))
     (omega (arith, needed-fits first k))
-    (find-fits 76 plain n (codes "this version has no answer " ++ decimal n) tt (omega (arith, digits-of n h)))))
+    (find-fits 104 plain n (codes "this version has no answer " ++ decimal n) tt (omega (arith, digits-of n h)))))

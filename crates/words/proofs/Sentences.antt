@@ -9,10 +9,10 @@ use borrow.Author.Tests.{ne-eqb}
 use Rattle.words.specs.Sentence.{plain, sentence, cut}
 use Rattle.words.specs.Text.{codes, find, decimal, Put}
 
-pub no-answer : (n first second : ℕ) → (n ≡ 0 → ⊥) → (n ≡ 1 → ⊥) → (n ≡ 2 → ⊥) → (n ≡ 3 → ⊥) → (n ≡ 4 → ⊥) → (n ≡ 5 → ⊥) → (n ≡ 6 → ⊥) → (n ≡ 7 → ⊥) → (n ≡ 8 → ⊥)
-    → sentence n first second ≡ codes "this version has no answer " ++ decimal n
+pub no-answer : (n first second third : ℕ) → (n ≡ 0 → ⊥) → (n ≡ 1 → ⊥) → (n ≡ 2 → ⊥) → (n ≡ 3 → ⊥) → (n ≡ 4 → ⊥) → (n ≡ 5 → ⊥) → (n ≡ 6 → ⊥) → (n ≡ 7 → ⊥) → (n ≡ 8 → ⊥)
+    → sentence n first second third ≡ codes "this version has no answer " ++ decimal n
 unfolding sentence find plain
-no-answer n first second h0 h1 h2 h3 h4 h5 h6 h7 h8 =
+no-answer n first second third h0 h1 h2 h3 h4 h5 h6 h7 h8 =
     rw (ne-eqb n 1 h1, ne-eqb n 2 h2, ne-eqb n 3 h3, ne-eqb n 0 h0, ne-eqb n 4 h4, ne-eqb n 5 h5, ne-eqb n 6 h6, ne-eqb n 7 h7, ne-eqb n 8 h8)
 
 -- what was put at the start of a slice

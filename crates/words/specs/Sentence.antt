@@ -14,6 +14,10 @@ place number e i = element e ++ cond (has-index number e) (codes "[" ++ decimal 
 unfoldable pub needed : ℕ → List ℕ
 needed n = cond (eqb n 1) (codes "1 byte is needed") (decimal n ++ codes " bytes are needed")
 
+-- the least width that would have held a value
+unfoldable pub bits-needed : ℕ → List ℕ
+bits-needed w = cond (eqb w 0) (codes "no width helps") (cond (eqb w 1) (codes "1 bit is needed") (decimal w ++ codes " bits are needed"))
+
 -- the answers that tell nothing more
 unfoldable pub plain : List (ℕ × String)
 plain =
@@ -25,15 +29,15 @@ plain =
     (8, "the slice is longer than 65536 bytes") ∷
     []
 
-unfoldable pub sentence : ℕ → ℕ → ℕ → List ℕ
-sentence number first second =
+unfoldable pub sentence : ℕ → ℕ → ℕ → ℕ → List ℕ
+sentence number first second third =
     cond (eqb number 1) (place 1 first second ++ codes " is inconsistent")
-    (cond (eqb number 2) (place 2 first second ++ codes " does not fit its field")
+    (cond (eqb number 2) (place 2 first second ++ (codes " does not fit its field: " ++ bits-needed third))
     (cond (eqb number 3) (codes "the buffer is too short: " ++ needed first)
     (find number plain (codes "this version has no answer " ++ decimal number))))
 
 abbrev pub explained : List ℕ → List ℕ
-explained answer = sentence (getD answer 0 0) (getD answer 1 0) (getD answer 2 0)
+explained answer = sentence (getD answer 0 0) (getD answer 1 0) (getD answer 2 0) (getD answer 3 0)
 
 -- text for C: as many bytes as leave room for a 0 byte, and that byte; the bytes behind it are kept
 unfoldable pub cut : List ℕ → List ℕ → List ℕ

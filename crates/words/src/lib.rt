@@ -28,13 +28,13 @@ fn cut(s: &[u8], text: &mut [u8])
     text[n] = 0;
 }
 
-// No sentence has more than 76 bytes (proofs/Longest.antt).
-fn tell(number: u32, first: u32, second: u32, text: &mut [u8]) -> u32
-    ensures { λ r. ⌜ r ≡ length (Sentence·sentence number first second) ⌝ }
-    ensures { λ _. ⌜ now (text .exit) ≡ Sentence·cut (Sentence·sentence number first second) (now (text .entry)) ⌝ }
+// No sentence has more than 104 bytes (proofs/Longest.antt).
+fn tell(number: u32, first: u32, second: u32, third: u32, text: &mut [u8]) -> u32
+    ensures { λ r. ⌜ r ≡ length (Sentence·sentence number first second third) ⌝ }
+    ensures { λ _. ⌜ now (text .exit) ≡ Sentence·cut (Sentence·sentence number first second third) (now (text .entry)) ⌝ }
 {
-    let mut whole = [0u8; 76];
-    let n = sentence(&mut whole, number, first, second);
+    let mut whole = [0u8; 104];
+    let n = sentence(&mut whole, number, first, second, third);
     cut(&whole[..n], text);
     n as u32
 }
@@ -45,5 +45,5 @@ pub fn explain(answer: &[u32; 4], text: &mut [u8]) -> u32
     ensures { λ r. ⌜ r ≡ length (explained (now (answer .entry))) ⌝ }
     ensures { λ _. ⌜ now (text .exit) ≡ Sentence·cut (explained (now (answer .entry))) (now (text .entry)) ⌝ }
 {
-    tell(answer[0], answer[1], answer[2], text)
+    tell(answer[0], answer[1], answer[2], answer[3], text)
 }

@@ -4,7 +4,7 @@ use crate::names::has_index;
 use crate::put::byte;
 use crate::put::decimal;
 use crate::put::text;
-ghost use Rattle.words.specs.Sentence.{place as Sentence·place, needed as Sentence·needed, sentence as Sentence·sentence};
+ghost use Rattle.words.specs.Sentence.{place as Sentence·place, needed as Sentence·needed, bits-needed as Sentence·bits-needed, sentence as Sentence·sentence};
 ghost use Rattle.words.specs.Text.{Put};
 
 fn place(out: &mut [u8], number: u32, e: u32, index: u32) -> usize
@@ -29,8 +29,21 @@ fn needed(out: &mut [u8], at: usize, n: u32) -> usize
     text(out, at, b" bytes are needed")
 }
 
-pub fn sentence(out: &mut [u8], number: u32, first: u32, second: u32) -> usize
-    ensures { λ r. ⌜ Put (now (out .entry)) 0 (Sentence·sentence number first second) r (now (out .exit)) ⌝ }
+fn bits_needed(out: &mut [u8], at: usize, width: u32) -> usize
+    ensures { λ r. ⌜ Put (now (out .entry)) at (Sentence·bits-needed width) r (now (out .exit)) ⌝ }
+{
+    if width == 0 {
+        return text(out, at, b"no width helps");
+    }
+    if width == 1 {
+        return text(out, at, b"1 bit is needed");
+    }
+    let at = decimal(out, at, width as u64);
+    text(out, at, b" bits are needed")
+}
+
+pub fn sentence(out: &mut [u8], number: u32, first: u32, second: u32, third: u32) -> usize
+    ensures { λ r. ⌜ Put (now (out .entry)) 0 (Sentence·sentence number first second third) r (now (out .exit)) ⌝ }
 {
     match number {
         0 => text(out, 0, b"done"),
@@ -40,7 +53,8 @@ pub fn sentence(out: &mut [u8], number: u32, first: u32, second: u32) -> usize
         }
         2 => {
             let at = place(out, 2, first, second);
-            text(out, at, b" does not fit its field")
+            let at = text(out, at, b" does not fit its field: ");
+            bits_needed(out, at, third)
         }
         3 => {
             let at = text(out, 0, b"the buffer is too short: ");

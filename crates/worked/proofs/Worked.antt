@@ -10,8 +10,9 @@ use lib.IntN.{pos, negsuc}
 use borrow.Author.Needs.{needs}
 use Rattle.bits.specs.Bits.{toBits, bitAt, bitsOf, fromBits, Bits}
 use Rattle.bits.specs.Walk.{Walk, wrote, refuses, join, run}
-use Rattle.bits.specs.Codec.{_▷_, choose, select, via, allowed, within, checked, f, flag, zeros, absent, inferred, inferredFlag, array, merged, takeBits, recode}
-use Rattle.bits.specs.Codes.{leb128, leb-step, unary, topBit, uvlc, su}
+use Rattle.bits.specs.Codec.{_▷_, choose, select, via, allowed, within, checked, f, flag, zeros, absent, inferred, inferredFlag, array, merged, takeBits}
+use Rattle.bits.specs.Widths.{widthUpTo, bitLength, signedLength}
+use Rattle.bits.specs.Codes.{leb128, leb-step, unary, uvlc, su}
 use Rattle.bits.specs.Answers.{numbered}
 use Rattle.bits.specs.declared.answer.Refusal.the-variants.{Inconsistent, Short, Ends, Size, Trailing, Unfit}
 use Rattle.bits.specs.declared.answer.Numbered.{Numbered}
@@ -51,7 +52,7 @@ digits (d ∷ ds) = eqb d 1 ∷ digits ds
 
 -- The numbers that an answer returns: its own, and the two that it carries.
 abbrev numbers : ℕ → ℕ → ℕ → Numbered
-numbers n first second = record { number = n; first = first; second = second }
+numbers n first second = record { number = n; first = first; second = second; third = 0 }
 
 -- The public writer of the walk w writes the bytes es: into every buffer that has room for them, with every byte behind them kept.
 pub record Gives (w : Walk) (es : List ℕ) : Type 0 where
@@ -99,8 +100,8 @@ pub record Worked : Type 0 where
   pub case-8-minus-1 : (e i : ℕ) → Has (su 7 e i .enc (negsuc 0)) (1 ∷ 1 ∷ 1 ∷ 1 ∷ 1 ∷ 1 ∷ 1 ∷ [])
   pub case-8-minus-64 : (e i : ℕ) → Has (su 7 e i .enc (negsuc 63)) (1 ∷ 0 ∷ 0 ∷ 0 ∷ 0 ∷ 0 ∷ 0 ∷ [])
   pub case-8-63 : (e i : ℕ) → Has (su 7 e i .enc (pos 63)) (0 ∷ 1 ∷ 1 ∷ 1 ∷ 1 ∷ 1 ∷ 1 ∷ [])
-  pub case-8-64 : (e i : ℕ) → run (su 7 e i .enc (pos 64)) ≡ refuses (Unfit e i)
-  pub case-8-minus-65 : (e i : ℕ) → run (su 7 e i .enc (negsuc 64)) ≡ refuses (Unfit e i)
+  pub case-8-64 : (e i : ℕ) → run (su 7 e i .enc (pos 64)) ≡ refuses (Unfit e i 8)
+  pub case-8-minus-65 : (e i : ℕ) → run (su 7 e i .enc (negsuc 64)) ≡ refuses (Unfit e i 8)
   -- 9. `uvlc` 0, 1, 2: 1, 010, 011.
   pub case-9-0 : (e i : ℕ) → Has (uvlc e i .enc 0) (1 ∷ [])
   pub case-9-1 : (e i : ℕ) → Has (uvlc e i .enc 1) (0 ∷ 1 ∷ 0 ∷ [])
@@ -118,7 +119,7 @@ given : {w : Walk} {es : List ℕ} → AreBytes es → run w ≡ wrote (bitsOf e
 given E e = record { into = λ buffer B h few. gives _ _ buffer e E B h few }
 
 pub worked : Worked
-unfolding answerFor read readObu readSize readTrailing isTrailing allZero bitsOf toBits bitAt fromBits takeBits _▷_ choose select via allowed within checked f flag zeros absent inferred inferredFlag array merged leb128 leb-step obu obu-header header-table expected-type header-end obu-extension-header f-if flag-if ticks-per-picture timing-info decoder-model-info timing-info-if decoder-model-info-if timing reduced-timing operating-parameters-info point-model point-delay point-rest operating-point operating-points points reduced-delay reduced-point-rest reduced-point reduced-points max-frame-size frame-size-fields frame-size frame-ids block-tools hint-tools choice no-choice integer-mv hint-bits motion-tools order-tools full-tools reduced-motion-tools reduced-order-tools reduced-tools inter-tools filter-tools color-values color-description sampling fixed-sampling mono-planes srgb-planes other-planes planes color-rest color-config profile full-general reduced-general general color-and-grain tools-and-color body sequence-header-obu sequence-header run join framed obu-size trailing-bits digits read-delta-q diff-uv v-coded v-inferred v-deltas uv-deltas no-uv-deltas three-planes one-plane chroma v-matrix matrices qmatrix quantization-table quantization-params inferredSigned su recode damping secondary strength strengths each-strength on-table cdef-on cdef-off cdef-params zip unit-shift small-shift uvlc unary topBit
+unfolding answerFor read readObu readSize readTrailing isTrailing allZero bitsOf toBits bitAt fromBits takeBits _▷_ choose select via allowed within checked f flag zeros absent inferred inferredFlag array merged leb128 leb-step obu obu-header header-table expected-type header-end obu-extension-header f-if flag-if ticks-per-picture timing-info decoder-model-info timing-info-if decoder-model-info-if timing reduced-timing operating-parameters-info point-model point-delay point-rest operating-point operating-points points reduced-delay reduced-point-rest reduced-point reduced-points max-frame-size frame-size-fields frame-size frame-ids block-tools hint-tools choice no-choice integer-mv hint-bits motion-tools order-tools full-tools reduced-motion-tools reduced-order-tools reduced-tools inter-tools filter-tools color-values color-description sampling fixed-sampling mono-planes srgb-planes other-planes planes color-rest color-config profile full-general reduced-general general color-and-grain tools-and-color body sequence-header-obu sequence-header run join framed obu-size trailing-bits digits read-delta-q diff-uv v-coded v-inferred v-deltas uv-deltas no-uv-deltas three-planes one-plane chroma v-matrix matrices qmatrix quantization-table quantization-params inferredSigned su damping secondary strength strengths each-strength on-table cdef-on cdef-off cdef-params zip unit-shift small-shift uvlc unary widthUpTo bitLength signedLength
 worked = record {
   case-1 = λ t s. given (search needs) (run-plain true t s);
   case-1-without-size = λ t s. given (search needs) (run-plain false t s);

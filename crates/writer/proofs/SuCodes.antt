@@ -12,10 +12,11 @@ use mir.Syntax.{Width, w32}
 use mir.Val.{SFits, toZ, ofZ, hbits}
 use mir.Facts.{sfits-widen}
 use borrow.Author.Tests.{lt-ltb, le-ltb, le-leb, lt-leb, ltb-true}
+use Rattle.bits.specs.Widths.{bitLength, signedLength}
 use Rattle.bits.specs.Walk.{field, Walked}
-use Rattle.bits.specs.Codec.{f, recode}
 use Rattle.bits.specs.Codes.{su-out, su}
 use Rattle.bits.specs.declared.answer.Cursor.{Cursor}
+use Rattle.bits.specs.declared.answer.Refusal.the-variants.{Unfit}
 use Rattle.bits.specs.declared.answer.Step.{Step}
 use Rattle.bits.proofs.Signs.{same, widened}
 
@@ -59,11 +60,36 @@ module _ (n : ℕ) (z : ℤ) (m p : ℕ) (f : SFits w32 z) (e : m ≡ mag (toZ w
 pub code-low-fits : (n m p : ℕ) → p ≡ 2 ^ n → n ≤ 32 → p - (m + 1) < 2 ^ 32
 code-low-fits n m p q l = let h : 2 ^ n ≤ 2 ^ 32 = pow-mono l in omega arith
 
--- the field that holds the code
-pub su-by : (n w : ℕ) (z : ℤ) (k e i : ℕ) {c : Cursor} {xs ys : List ℕ} {s : Step} → SFits w32 z → w ≡ min n 32 → k ≡ su-out w (toZ w32 (ofZ w32 z))
-    → Walked (field w k e i) c xs s ys → Walked (su (min n 32) e i .enc z) c xs s ys
-unfolding su recode f
-su-by n w z k e i h p q g = rw (← p, ← (rw (same w32 z h) at q)) g
+-- the field that holds the code, and the width that its refusal says
+pub su-by : (n w : ℕ) (z : ℤ) (k e i r : ℕ) {c : Cursor} {xs ys : List ℕ} {s : Step} → SFits w32 z → w ≡ min n 32 → k ≡ su-out w (toZ w32 (ofZ w32 z)) → r ≡ signedLength (toZ w32 (ofZ w32 z))
+    → Walked (field w k (Unfit e i r)) c xs s ys → Walked (su (min n 32) e i .enc z) c xs s ys
+unfolding su
+su-by n w z k e i r h p q l g = rw (← p, ← (rw (same w32 z h) at q), ← (rw (same w32 z h) at l)) g
+
+-- the least width that holds a number, by its sign: m is the magnitude
+low-length : (z : ℤ) (m r : ℕ) → m ≡ mag z → ltZ z (pos 0) ≡ true → r ≡ bitLength (m * 2 + 1) → r ≡ signedLength z
+unfolding signedLength
+low-length (pos a) m r e s h = absurd (omega (arith, ltb-true a 0 s))
+low-length (negsuc a) m r e s h = rw (← e) h
+
+high-length : (z : ℤ) (m r : ℕ) → m ≡ mag z → ltZ z (pos 0) ≡ false → r ≡ bitLength (m * 2) → r ≡ signedLength z
+unfolding signedLength
+high-length (pos a) m r e s h = rw (← e) h
+high-length (negsuc a) m r e s h = absurd (let x : _≡_ {A = ℕ} 0 1 = cc in omega arith)
+
+module _ (z : ℤ) (m : ℕ) (f : SFits w32 z) (e : m ≡ mag (toZ w32 (ofZ w32 z))) where
+  pub length-low : (r : ℕ) → ltZ (toZ w32 (ofZ w32 z)) (pos 0) ≡ true → r ≡ bitLength (m * 2 + 1) → r ≡ signedLength z
+  length-low r s h = low-length z m r (rw (same w32 z f) at e) (rw (same w32 z f) at s) h
+
+  pub length-high : (r : ℕ) → ltZ (toZ w32 (ofZ w32 z)) (pos 0) ≡ false → r ≡ bitLength (m * 2) → r ≡ signedLength z
+  length-high r s h = high-length z m r (rw (same w32 z f) at e) (rw (same w32 z f) at s) h
+
+  -- what is computed of the magnitude fits
+  pub twice-fits : m * 2 < 2 ^ 32
+  twice-fits = omega (arith, f .sfits, rw (same w32 z f) at e)
+
+  pub more-fits : m * 2 + 1 < 2 ^ 32
+  more-fits = omega (arith, f .sfits, rw (same w32 z f) at e)
 
 -- a number of w bits, widened to v bits
 module _ (w v : Width) (t : T (leb (hbits w) (hbits v))) (z : ℤ) (h : SFits w z) where

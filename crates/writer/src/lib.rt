@@ -1,5 +1,5 @@
 // The bit writer: the codes of 4.10 written, and checks. Each step answers the next place or the refusal.
-mod number; // number.rt: high bits, and signs
+pub mod number; // number.rt: high bits, and signs
 pub mod store; // store.rt: bits stored in bytes
 
 use crate::number::*;
@@ -11,7 +11,7 @@ ghost use lib.Dec.{ltb};
 ghost use Prim.Native.Nat.{min, _^_};
 ghost use Rattle.bits.specs.declared.answer.Refusal.the-variants.{Inconsistent};
 ghost use Rattle.bits.specs.declared.answer.Step.the-variants.{Next};
-ghost use Rattle.bits.specs.Walk.{Walked, field, mark, demand, forward};
+ghost use Rattle.bits.specs.Walk.{Walked, field, unsigned, mark, demand, forward};
 ghost use Rattle.bits.specs.Codec.{sameFlag, inferredFlag};
 ghost use Rattle.bits.specs.Codes.{uvlc, su, su-out, leb128};
 
@@ -33,9 +33,9 @@ pub fn fits(v: u32, width: u32) -> bool
     if width < 32 { v >> width == 0 } else { true }
 }
 
-// f(n).
-pub fn f(out: &mut [u8], c: Cursor, width: u32, value: u32, element: u8, index: u8) -> Step
-    ensures { λ r. ⌜ Walked (field width value element index) c (now (out .entry)) r (now (out .exit)) ⌝ }
+// So many bits of a number, or the refusal where they do not hold it.
+pub fn field(out: &mut [u8], c: Cursor, width: u32, value: u32, refusal: Refusal) -> Step
+    ensures { λ r. ⌜ Walked (field width value refusal) c (now (out .entry)) r (now (out .exit)) ⌝ }
 {
     if fits(value, width) {
         let at = c.at;
@@ -44,8 +44,16 @@ pub fn f(out: &mut [u8], c: Cursor, width: u32, value: u32, element: u8, index: 
             at: forward(at, width),
         })
     } else {
-        Step::Refused(Refusal::Unfit(element, index))
+        Step::Refused(refusal)
     }
+}
+
+// f(n).
+pub fn f(out: &mut [u8], c: Cursor, width: u32, value: u32, element: u8, index: u8) -> Step
+    ensures { λ r. ⌜ Walked (unsigned width value element index) c (now (out .entry)) r (now (out .exit)) ⌝ }
+{
+    let refusal = Refusal::Unfit(element, index, bit_length(value));
+    field(out, c, width, value, refusal)
 }
 
 // f(1) of a flag.
@@ -89,7 +97,7 @@ pub fn inferred_flag(
 
 // So many zeros, which always fit; the place behind them.
 fn zeros(out: &mut [u8], c: Cursor, width: u32) -> Cursor
-    ensures { λ r. ⌜ Walked (field width 0 0 0) c (now (out .entry)) (Next r) (now (out .exit)) ⌝ }
+    ensures { λ r. ⌜ Walked (unsigned width 0 0 0) c (now (out .entry)) (Next r) (now (out .exit)) ⌝ }
 {
     let at = c.at;
     put(out, at, width, 0);
@@ -103,9 +111,9 @@ pub fn uvlc(out: &mut [u8], c: Cursor, value: u32, element: u8, index: u8) -> St
     ensures { λ r. ⌜ Walked (uvlc element index .enc value) c (now (out .entry)) r (now (out .exit)) ⌝ }
 {
     if value == u32::MAX {
-        return Step::Refused(Refusal::Unfit(element, index));
+        return Step::Refused(Refusal::Unfit(element, index, 33));
     }
-    let length = 32 - u32::leading_zeros(value + 1);
+    let length = bit_length(value + 1) as u32;
     let c = zeros(out, c, length - 1);
     f(out, c, length, value + 1, element, index)
 }
@@ -133,20 +141,15 @@ pub fn su(out: &mut [u8], c: Cursor, width: u32, value: i32, element: u8, index:
 {
     let width = smaller(width, 32);
     let code = su_code(value, width);
-    f(out, c, width, code, element, index)
+    let refusal = Refusal::Unfit(element, index, signed_length(value));
+    field(out, c, width, code, refusal)
 }
 
-// The same of a 16-bit and of an 8-bit number.
+// The same of a 16-bit number.
 pub fn su16(out: &mut [u8], c: Cursor, width: u32, value: i16, element: u8, index: u8) -> Step
     ensures { λ r. ⌜ Walked (su (min width 32) element index .enc value) c (now (out .entry)) r (now (out .exit)) ⌝ }
 {
     su(out, c, width, value as i32, element, index)
-}
-
-pub fn su8(out: &mut [u8], c: Cursor, width: u32, value: i8, element: u8, index: u8) -> Step
-    ensures { λ r. ⌜ Walked (su (min width 32) element index .enc value) c (now (out .entry)) r (now (out .exit)) ⌝ }
-{
-    su16(out, c, width, value as i16, element, index)
 }
 
 // The code of su(n) of a 16-bit number, or 2^n where it is out of range.

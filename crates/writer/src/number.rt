@@ -1,9 +1,10 @@
 // High bits and signs: the arithmetic of what is written.
-use bits::number::pow2;
+use bits::number::*;
 ghost use mathlib.Core.Path.{_≡_};
 ghost use lib.Signed.{mag};
 ghost use Prim.Native.Nat.{_≤_, _/_, _^_};
 ghost use Rattle.bits.specs.Codes.{su-out};
+ghost use Rattle.bits.specs.Widths.{signedLength};
 
 // v without so many of its low bits, 0 where there are no others.
 pub fn above(v: u32, low: u32) -> u64
@@ -37,4 +38,15 @@ pub fn su_code(v: i32, width: u32) -> u32
         return m as u32;
     }
     all as u32
+}
+
+// The least width of two's complement that holds v.
+pub fn signed_length(v: i32) -> u8
+    ensures { λ r. ⌜ r ≡ signedLength v ⌝ }
+{
+    let m = magnitude(v);
+    if v < 0 {
+        return bit_length(m * 2 + 1);
+    }
+    bit_length(m * 2)
 }

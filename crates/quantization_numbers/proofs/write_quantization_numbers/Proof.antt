@@ -7,4 +7,4 @@ pub write-quantization-numbers-spec : {M : Type 1} → statement M
 write-quantization-numbers-spec =
     tie.close
     (tie.spec
-    (λ c κs. search needs) (λ c κs. search needs) (λ c κs. search needs) (λ c. search needs) (λ c. search quantization-crosses))
+    (λ c κs. search needs) (λ c κs. search needs) (λ c κs. search needs) (λ c κs. search needs) (λ c. search needs) (λ c. search quantization-crosses))

@@ -10,8 +10,8 @@ returns : tie.Need-returns
 unfolding numbers-of video at of each nowhere _▸_ _▹_
 returns c =
     rw (
-      c .top-bit2 .ensures,
-      c .before .top-bit .ensures,
+      c .bits-minus-12 .ensures,
+      c .before .bits-minus-1 .ensures,
       c .before .before .profile .ensures,
       c .before .before .before .minus-12 .ensures,
       c .before .before .before .before .minus-1 .ensures,

@@ -12,10 +12,10 @@ use Rattle.words.proofs.tell.Statement.{statement}
 use Rattle.words.proofs.tell.Tie as tie
 
 abbrev told : tie.After-sentence → List ℕ
-told c = sentence (c .before .before .before .args .number) (c .before .before .before .args .first) (c .before .before .before .args .second)
+told c = sentence (c .before .before .before .args .number) (c .before .before .before .args .first) (c .before .before .before .args .second) (c .before .before .before .args .third)
 
-short : (c : tie.After-sentence) → length (told c) ≤ 76
-short c = longest (c .before .before .before .args .number) (c .before .before .before .args .first) (c .before .before .before .args .second) (search needs) (search needs) (search needs)
+short : (c : tie.After-sentence) → length (told c) ≤ 104
+short c = longest (c .before .before .before .args .number) (c .before .before .before .args .first) (c .before .before .before .args .second) (c .before .before .before .args .third) (search needs) (search needs) (search needs) (search needs)
 
 -- the sentence stands at the start of the array
 placed : (c : tie.After-sentence) → (c .sentence .result ≡ length (told c)) × (take (c .sentence .result) (c .sentence .last .0) ≡ told c)

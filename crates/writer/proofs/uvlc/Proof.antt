@@ -1,5 +1,4 @@
 use borrow.Author.Needs.{needs}
-use lib.Count.{leading-le}
 use Rattle.writer.proofs.Coding.{uvlc-unfit, length-some, uvlc-done}
 use Rattle.writer.proofs.uvlc.Statement.{statement}
 use Rattle.writer.proofs.uvlc.Tie as tie
@@ -9,5 +8,5 @@ uvlc-spec =
     tie.close
     (tie.spec
     (λ c. search uvlc-unfit)
-    (λ c. search needs) (λ c. leading-le 32 _) (λ c. search length-some) (λ c κs. search needs)
+    (λ c. search needs) (λ c κs. search needs) (λ c. search needs) (λ c. search length-some) (λ c κs. search needs)
     (λ c. search needs) (λ c κs. search needs) (λ c. search needs) (λ c. search uvlc-done))

@@ -33,6 +33,6 @@ default-refs-spec =
     Inv-loop
     μ-loop
     (λ c. each-start (lit≤ tt))
-    (λ c. search needs) (λ c. search needs) (λ c κs. search needs) (λ c. search needs) (λ c. search needs) (λ c. kept (returns c)) returns
+    (λ c. search needs) (λ c. search needs) (λ c κs. search needs) (λ c κs. search needs) (λ c. search needs) (λ c. search needs) (λ c. kept (returns c)) returns
     (λ c. search needs) (λ c. search needs) (λ c. search (each-more, both-by))
     (λ c. kept (returns-2 c)) returns-2)

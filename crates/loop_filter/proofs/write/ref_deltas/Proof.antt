@@ -32,6 +32,6 @@ ref-deltas-spec =
     Inv-loop
     μ-loop
     (λ c. each-start (lit≤ tt))
-    (λ c. search needs) (λ c. search needs) (λ c κs. search needs) (λ c. search needs) (λ c. search needs) (λ c. kept (returns c)) returns
+    (λ c. search needs) (λ c. search needs) (λ c. search needs) (λ c κs. search needs) (λ c. search needs) (λ c. search needs) (λ c. kept (returns c)) returns
     (λ c. search needs) (λ c. search needs) (λ c. search (each-more, given))
     (λ c. kept (returns-2 c)) returns-2)

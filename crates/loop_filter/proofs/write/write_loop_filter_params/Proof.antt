@@ -2,7 +2,7 @@
 use borrow.Author.Needs.{needs}
 use lib.Dec.{lit≤}
 use Rattle.bits.specs.Walk.{bound}
-use Rattle.bits.specs.Codec.{_▷_, choose, recode, merged, via, array, f, flag, absent, inferred}
+use Rattle.bits.specs.Codec.{_▷_, choose, merged, via, array, f, flag, absent, inferred}
 use Rattle.bits.specs.Codes.{su}
 use Rattle.parts.specs.Codes.{inferredSigned}
 use Rattle.loop_filter.specs.LoopFilter.{chroma-levels, levels, delta, ref-deltas, mode-deltas, deltas, delta-update, rest, filter-on, default-refs, default-modes, no-levels, no-rest, filter-off, loop-filter-table, loop-filter-params, no-old}
@@ -13,7 +13,7 @@ use Rattle.loop_filter.proofs.write.write_loop_filter_params.Statement.
 use Rattle.loop_filter.proofs.write.write_loop_filter_params.Tie as tie
 
 few : (context : LoopFilterContext) (p : LoopFilterParams) → Few 24 (loop-filter-params context no-old .enc p)
-unfolding bound chroma-levels levels delta ref-deltas mode-deltas deltas delta-update rest filter-on default-refs default-modes no-levels no-rest filter-off loop-filter-table loop-filter-params inferredSigned su _▷_ choose recode merged via array f flag absent inferred
+unfolding bound chroma-levels levels delta ref-deltas mode-deltas deltas delta-update rest filter-on default-refs default-modes no-levels no-rest filter-off loop-filter-table loop-filter-params inferredSigned su _▷_ choose merged via array f flag absent inferred
 few context p = record { most = lit≤ tt; size = lit≤ tt }
 
 pub write-loop-filter-params-spec : {M : Type 1} → statement M

@@ -13,6 +13,7 @@ use Rattle.sequence.specs.Timing.{timing}
 use Rattle.sequence.specs.Points.{points}
 use Rattle.sequence.specs.Sequence.{full-general}
 use Rattle.bits.proofs.Walking.{walk}
+use Rattle.sequence.proofs.Sizes.{delay-few}
 use Rattle.sequence.proofs.write.full_general.Statement.{statement}
 use Rattle.sequence.proofs.write.full_general.Tie as tie
 
@@ -25,5 +26,5 @@ unfolding full-general timing flag-if _▷_ select via flag inferredFlag
 full-general-spec =
     tie.close
     (tie.spec
-    (λ c κs. search needs) (λ c κs. search needs) (λ c. search needs) (λ c. search needs) (λ c. search needs) (λ c. search walk depth 14)
-    (λ c κs. search needs) (λ c. search needs) (λ c. search (walk, by-width) depth 14))
+    (λ c κs. search needs) (λ c. search needs) (λ c. search needs) (λ c. search needs) (λ c. search walk depth 14)
+    (λ c κs. search delay-few) (λ c κs. search needs) (λ c. search needs) (λ c. search (walk, by-width) depth 14))

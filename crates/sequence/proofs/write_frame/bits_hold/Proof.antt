@@ -7,4 +7,4 @@ pub bits-hold-spec : {M : Type 1} → statement M
 bits-hold-spec =
     tie.close
     (tie.spec
-    (λ c. search needs) (λ c κs. search needs) (λ c κs. search needs) (λ c. search needs) (λ c. search walk-by depth 14))
+    (λ c κs. search needs) (λ c κs. search needs) (λ c. search needs) (λ c. search walk-by depth 14))

@@ -10,7 +10,7 @@ unfolding decoder-model-info _▷_ via f
 decoder-model-info-spec =
     tie.close
     (tie.spec
-    (λ c. search needs) (λ c κs. search needs) (λ c. search needs) (λ c. search needs) (λ c. search needs) (λ c. search walk depth 14)
+    (λ c κs. search needs) (λ c. search needs) (λ c. search needs) (λ c. search needs) (λ c. search walk depth 14)
     (λ c κs. search needs) (λ c. search needs) (λ c. search needs) (λ c. search needs) (λ c. search walk depth 14)
     (λ c κs. search needs) (λ c. search needs) (λ c. search needs) (λ c. search needs) (λ c. search walk depth 14)
     (λ c κs. search needs) (λ c. search needs) (λ c. search walk depth 14))

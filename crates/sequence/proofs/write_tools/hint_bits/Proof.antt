@@ -2,6 +2,7 @@ use borrow.Author.Needs.{needs}
 use Rattle.bits.specs.Codec.{_▷_, choose, via, f, absent, inferred}
 use Rattle.sequence.specs.Tools.{hint-bits}
 use Rattle.bits.proofs.Walking.{walk}
+use Rattle.sequence.proofs.Sizes.{one-more}
 use Rattle.sequence.proofs.write_tools.hint_bits.Statement.{statement}
 use Rattle.sequence.proofs.write_tools.hint_bits.Tie as tie
 
@@ -11,5 +12,5 @@ hint-bits-spec =
     tie.close
     (tie.spec
     (λ c κs. search needs) (λ c. search needs) (λ c. search needs) (λ c. search needs) (λ c. search walk depth 14)
-    (λ c. search needs) (λ c κs. search needs) (λ c. search needs) (λ c. search walk depth 14)
+    (λ c. record { fits = search one-more }) (λ c κs. search needs) (λ c. search needs) (λ c. search walk depth 14)
     (λ c κs. search needs) (λ c. search needs) (λ c. search walk depth 14))

@@ -5,21 +5,19 @@ use Rattle.sequence_numbers.proofs.record.sequence_header.Tie as tie
 
 returns : tie.Need-returns
 returns c =
-    let hints = c .before .before .before .before .before in
-    let highest = hints .before .before .before .before .before .before .before .before .before .before .before .before .before .before .before .before .before .before .before in
-    let widest = highest .before .before in
-    let height = widest .before .before in
-    let width = height .before .before in
-    let color = width .before .before .before .before .before .before .before .before .before in
+    let tools = c .before .before .before .before .before .before .before .before .before .before .before .before .before .before .before .before .before in
+    let color = tools .before .before .before .before .before .before .before .before .before .before .before .before .before .before .before .before .before in
     let points = color .before in
     let model = points .before in
     let timing = model .before in
     let header = timing .before in
     record-given (header .before .before .before .before .before .before .args .n .now) (points .operating-points .result) (header .obu-header .ensures) (timing .timing-info .ensures) (model .decoder-model-info .ensures) (points .operating-points .ensures) (color .color-config .ensures)
-    (width .byte .ensures) (height .byte2 .ensures) (widest .word .ensures) (highest .word2 .ensures) (hints .byte3 .ensures)
 
 pub sequence-header-spec : {M : Type 1} → statement M
 sequence-header-spec =
     tie.close
     (tie.spec
-    (λ c. search needs) (λ c. search needs) (λ c. search needs) (λ c. search needs) (λ c. search needs) (λ c κs. search needs) (λ c κs. search needs) (λ c κs. search needs) (λ c κs. search needs) (λ c κs. search needs) (λ c. search needs) (λ c. search needs) (λ c. search needs) (λ c. search needs) (λ c. search needs) (λ c. search needs) (λ c. search needs) (λ c. search needs) (λ c κs. search needs) (λ c. search needs) (λ c κs. search needs) (λ c. search needs) (λ c κs. search needs) (λ c. search needs) (λ c κs. search needs) (λ c. search needs) (λ c. search needs) (λ c. search needs) (λ c. search needs) (λ c. search needs) (λ c. search needs) (λ c. search needs) (λ c. search needs) (λ c. search needs) (λ c. search needs) (λ c. search needs) (λ c. search needs) (λ c. search needs) (λ c. search needs) (λ c. search needs) (λ c. search needs) (λ c. search needs) (λ c. search needs) (λ c κs. search needs) (λ c. search needs) (λ c. search needs) (λ c. search needs) (λ c. search needs) (λ c. search needs) returns)
+    (λ c. search needs) (λ c. search needs) (λ c. search needs) (λ c. search needs) (λ c. search needs) (λ c κs. search needs) (λ c κs. search needs) (λ c κs. search needs) (λ c κs. search needs) (λ c κs. search needs)
+    (λ c. search needs) (λ c. search needs) (λ c. search needs) (λ c. search needs) (λ c. search needs) (λ c. search needs) (λ c. search needs) (λ c. search needs) (λ c. search needs) (λ c. search needs) (λ c. search needs) (λ c. search needs) (λ c. search needs) (λ c. search needs) (λ c. search needs) (λ c. search needs) (λ c. search needs)
+    (λ c. search needs) (λ c. search needs) (λ c. search needs) (λ c. search needs) (λ c. search needs) (λ c. search needs) (λ c. search needs) (λ c. search needs) (λ c. search needs) (λ c. search needs) (λ c. search needs) (λ c. search needs) (λ c. search needs) (λ c. search needs) (λ c. search needs) (λ c. search needs) (λ c. search needs)
+    returns)

@@ -1,5 +1,6 @@
+use mathlib.Core.List.{_++_}
 use borrow.Author.Needs.{needs}
-use Rattle.words.specs.Sentence.{place, needed, plain, sentence}
+use Rattle.words.specs.Sentence.{place, needed, bits-needed, plain, sentence}
 use Rattle.words.specs.Text.{codes, find, decimal}
 use Rattle.words.proofs.Puts.{put-then}
 use Rattle.words.proofs.Sentences.{no-answer}
@@ -22,11 +23,13 @@ returns-2 c =
 returns-3 : tie.Need-returns-3
 unfolding sentence find plain
 returns-3 c =
-    let a = c .before .before .before .before .before .before .before .before .before .before .before .args in
-    let p = c .before .before .before .before .before .before .before .place2 in
-    let q = c .before .before .text3 in
-    rw (c .before .before .before .before .before .before .before .before .before .match .keys3)
-    (put-then (a .out .now) (p .last .0) (q .last .0) 0 (p .result) (q .result) (place 2 (a .first) (a .second)) (codes " does not fit its field") (p .ensures) (p .kept .0) (q .ensures))
+    let a = c .before .before .before .before .before .before .before .before .before .before .before .before .before .before .before .args in
+    let p = c .before .before .before .before .before .before .before .before .before .before .before .place2 in
+    let t = c .before .before .before .before .before .before .text3 in
+    let q = c .before .before .bits-needed in
+    rw (c .before .before .before .before .before .before .before .before .before .before .before .before .before .match .keys3)
+    (put-then (a .out .now) (p .last .0) (q .last .0) 0 (p .result) (q .result) (place 2 (a .first) (a .second)) (codes " does not fit its field: " ++ bits-needed (a .third)) (p .ensures) (p .kept .0)
+    (put-then (p .last .0) (t .last .0) (q .last .0) (p .result) (t .result) (q .result) (codes " does not fit its field: ") (bits-needed (a .third)) (t .ensures) (t .kept .0) (q .ensures)))
 
 returns-4 : tie.Need-returns-4
 unfolding sentence find plain
@@ -63,7 +66,7 @@ returns-10 c =
     let p = c .before .before .before .before .before .before .text10 in
     let q = c .before .before .decimal in
     let n = c .before .before .before .before .before .before .before .before .before .match .rest in
-    rw (no-answer (a .number) (a .first) (a .second) (n .0 .0 .0 .0 .0 .0 .0 .0 .1) (n .0 .0 .0 .0 .0 .0 .0 .1) (n .0 .0 .0 .0 .0 .0 .1) (n .0 .0 .0 .0 .0 .1) (n .0 .0 .0 .0 .1) (n .0 .0 .0 .1) (n .0 .0 .1) (n .0 .1) (n .1))
+    rw (no-answer (a .number) (a .first) (a .second) (a .third) (n .0 .0 .0 .0 .0 .0 .0 .0 .1) (n .0 .0 .0 .0 .0 .0 .0 .1) (n .0 .0 .0 .0 .0 .0 .1) (n .0 .0 .0 .0 .0 .1) (n .0 .0 .0 .0 .1) (n .0 .0 .0 .1) (n .0 .0 .1) (n .0 .1) (n .1))
     (put-then (a .out .now) (p .last .0) (q .last .0) 0 (p .result) (q .result) (codes "this version has no answer ") (decimal (a .number)) (p .ensures) (p .kept .0) (q .ensures))
 
 pub sentence-spec : {M : Type 1} → statement M
@@ -71,7 +74,7 @@ sentence-spec =
     tie.close
     (tie.spec
     (λ c. search needs) (λ c κs. search needs) (λ c κs. search needs) (λ c. search needs) (λ c κs. search needs) (λ c κs. search needs)
-    (λ c. search needs) (λ c κs. search needs) (λ c. search needs) (λ c κs. search needs) (λ c κs. search needs) (λ c. search needs)
+    (λ c. search needs) (λ c κs. search needs) (λ c κs. search needs) (λ c. search needs) (λ c κs. search needs) (λ c κs. search needs) (λ c. search needs)
     (λ c κs. search needs) (λ c. search needs) (λ c κs. search needs) (λ c. search needs) (λ c κs. search needs) (λ c. search needs)
     (λ c κs. search needs) (λ c. search needs) (λ c κs. search needs) (λ c. search needs) (λ c κs. search needs) (λ c κs. search needs)
     (λ c. search needs)
