@@ -15,7 +15,7 @@ extern "C" {
 #endif
 
 /* The version of this header: 10000 * major + 100 * minor + patch. */
-#define FRISCURELLA_VERSION 300
+#define FRISCURELLA_VERSION 400
 
 /* The version of the library. A program that finds another than FRISCURELLA_VERSION is linked with
    an archive that this header does not describe. */
@@ -48,15 +48,19 @@ struct friscurella_answer {
   uint32_t number; /* FRISCURELLA_DONE, or why the call refused */
   uint32_t first;  /* what the number carries, as said below; else 0 */
   uint32_t second; /* what the number carries, as said below; else 0 */
-  uint32_t third;  /* 0 in this version */
+  uint32_t third;  /* what the number carries, as said below; else 0 */
 };
 
-/* The numbers, and what first and second are. */
+/* The numbers, and what first, second and third are. */
 enum {
   FRISCURELLA_DONE = 0,         /* first: bytes written, or the end bit of a part; 0 of a reader */
   FRISCURELLA_INCONSISTENT = 1, /* inconsistent element, or a value that the rules forbid:
                                    element, index */
-  FRISCURELLA_UNFIT = 2,        /* value does not fit its field: element, index */
+  FRISCURELLA_UNFIT = 2,        /* value does not fit its field: element, index, and the least width
+                                   that would hold the value as it was given, in bits: in two's
+                                   complement if the field is signed. 0 if no width helps
+                                   (cdef_damping, the secondary strengths, lr_unit_shift); 33 for
+                                   num_ticks_per_picture_minus_1 */
   FRISCURELLA_SHORT = 3,        /* buffer too short. first: the least length that is enough, which
                                    may be over FRISCURELLA_SLICE_LIMIT */
   FRISCURELLA_ENDS = 4,         /* input ends inside header, size or body */

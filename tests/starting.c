@@ -107,8 +107,8 @@ static bool cut(const char *text, const char *whole, size_t length, size_t size)
   return true;
 }
 
-static void explain(uint32_t number, uint32_t first, uint32_t second) {
-  struct friscurella_answer answer = {number, first, second, 0};
+static void explain(uint32_t number, uint32_t first, uint32_t second, uint32_t third) {
+  struct friscurella_answer answer = {number, first, second, third};
   char whole[ROOM], text[ROOM];
   uint32_t length = friscurella_explain(&answer, whole, sizeof whole);
   bool fits = 0 < length && length < ROOM && strlen(whole) == length;
@@ -122,18 +122,19 @@ static void explain(uint32_t number, uint32_t first, uint32_t second) {
 
 static void sentences(void) {
   for (uint32_t element = 0; element <= FRISCURELLA_ELEMENT_LR_UV_SHIFT + 1; element++) {
-    explain(FRISCURELLA_INCONSISTENT, element, 0);
-    explain(FRISCURELLA_UNFIT, element, 0xFFFFFFFF);
+    explain(FRISCURELLA_INCONSISTENT, element, 0, 0);
+    explain(FRISCURELLA_UNFIT, element, 0xFFFFFFFF, 0xFFFFFFFF);
   }
   static const uint32_t needed[] = {0, 1, 9, 10, 65536, 0xFFFFFFFF};
   for (size_t i = 0; i < sizeof needed / sizeof *needed; i++) {
-    explain(FRISCURELLA_SHORT, needed[i], 0);
-    explain(FRISCURELLA_DONE, needed[i], 0);
-    explain(FRISCURELLA_INCONSISTENT, FRISCURELLA_ELEMENT_SEQ_TIER, needed[i]);
+    explain(FRISCURELLA_SHORT, needed[i], 0, 0);
+    explain(FRISCURELLA_DONE, needed[i], 0, 0);
+    explain(FRISCURELLA_INCONSISTENT, FRISCURELLA_ELEMENT_SEQ_TIER, needed[i], 0);
+    explain(FRISCURELLA_UNFIT, FRISCURELLA_ELEMENT_SEQ_TIER, 3, needed[i]);
   }
   for (uint32_t number = FRISCURELLA_ENDS; number <= FRISCURELLA_LONG + 1; number++)
-    explain(number, 0, 0);
-  explain(0xFFFFFFFF, 0xFFFFFFFF, 0xFFFFFFFF);
+    explain(number, 0, 0, 0);
+  explain(0xFFFFFFFF, 0xFFFFFFFF, 0xFFFFFFFF, 0xFFFFFFFF);
 }
 
 int main(void) {

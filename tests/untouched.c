@@ -22,7 +22,8 @@ static bool intact(const void *memory, size_t size) {
 static void judge(const char *call, uint32_t returned, const struct friscurella_answer *answer,
                   uint32_t number, const void *memory, size_t size) {
   bool kept = intact(memory, size);
-  if (returned == number && answer->number == number && answer->third == 0 && kept) return;
+  bool told = answer->third == 0 || number == FRISCURELLA_UNFIT; /* widths.c has that one */
+  if (returned == number && answer->number == number && told && kept) return;
   printf("%s: returned %u, answered %u with a third value %u, where %u is expected\n", call,
          (unsigned)returned, (unsigned)answer->number, (unsigned)answer->third, (unsigned)number);
   if (!kept) printf("%s: what was lent has changed\n", call);

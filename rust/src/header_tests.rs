@@ -215,7 +215,7 @@ fn what_is_not_known_is_a_refusal() {
         [u32::MAX, 1, 2, 3],
         [1, 0, 0, 0],
         [1, 47, 0, 0],
-        [2, 81, 5, 0],
+        [2, 81, 5, 9],
         [2, 256 + 1, 0, 0],
     ] {
         let refused = refusal::done(answer).unwrap_err();

@@ -18,7 +18,7 @@
 //!
 //! header.operating_points[0].seq_tier = 2;
 //! let refusal = write_sequence_header(&header, &mut buffer).unwrap_err();
-//! assert_eq!(refusal.to_string(), "seq_tier[0] does not fit its field");
+//! assert_eq!(refusal.to_string(), "seq_tier[0] does not fit its field: 2 bits are needed");
 //! # Ok::<(), friscurella::Refusal>(())
 //! ```
 //!
@@ -51,7 +51,7 @@ pub use record::*;
 pub use refusal::{Element, Refusal};
 
 /// The version of the library that this crate is for: 10000 * major + 100 * minor + patch.
-pub const VERSION: u32 = 300;
+pub const VERSION: u32 = 400;
 
 /// The version of the library that is linked. Another than [`VERSION`] may answer what this crate
 /// does not know.

@@ -23,6 +23,9 @@ pub enum Refusal {
         element: Element,
         /// The operating point or the place in an array; 0 where nothing repeats.
         index: u32,
+        /// The least width, in bits, that would hold the value: in two's complement where the
+        /// field is signed. 0 where no width helps, and 33 for `num_ticks_per_picture_minus_1`.
+        width: u32,
     },
     /// The buffer is too short.
     #[non_exhaustive]
@@ -63,7 +66,11 @@ pub(crate) fn done([number, first, second, third]: Answer) -> Result<u32, Refusa
     let known = match number {
         0 => return Ok(first),
         1 => element().map(|element| Refusal::Inconsistent { element, index }),
-        2 => element().map(|element| Refusal::Unfit { element, index }),
+        2 => element().map(|element| Refusal::Unfit {
+            element,
+            index,
+            width: third,
+        }),
         3 => Some(Refusal::Short { needed: first }),
         4 => Some(Refusal::Ends),
         5 => Some(Refusal::Reserved),
@@ -84,7 +91,11 @@ pub(crate) fn done([number, first, second, third]: Answer) -> Result<u32, Refusa
 pub(crate) fn answer(refusal: Refusal) -> Answer {
     match refusal {
         Refusal::Inconsistent { element, index } => [1, element.number(), index, 0],
-        Refusal::Unfit { element, index } => [2, element.number(), index, 0],
+        Refusal::Unfit {
+            element,
+            index,
+            width,
+        } => [2, element.number(), index, width],
         Refusal::Short { needed } => [3, needed, 0, 0],
         Refusal::Ends => [4, 0, 0, 0],
         Refusal::Reserved => [5, 0, 0, 0],

@@ -11,10 +11,15 @@ fn inconsistent<T: Debug>(answer: Result<T, Refusal>) -> (Element, u32) {
     }
 }
 
-/// The element that a call refuses as unfit, with its index.
-fn unfit<T: Debug>(answer: Result<T, Refusal>) -> (Element, u32) {
+/// The element that a call refuses as unfit, with its index and the width that it would need.
+fn unfit<T: Debug>(answer: Result<T, Refusal>) -> (Element, u32, u32) {
     match answer {
-        Err(Refusal::Unfit { element, index, .. }) => (element, index),
+        Err(Refusal::Unfit {
+            element,
+            index,
+            width,
+            ..
+        }) => (element, index, width),
         _ => panic!("{answer:?}"),
     }
 }
@@ -273,7 +278,7 @@ fn case_8_su() {
         assert_eq!(out, [0, byte, 0]);
     }
     for delta in [64, -65, i8::MAX, i8::MIN] {
-        assert_eq!(unfit(write(delta, &mut [0; 3])), (Element::DeltaQYDc, 0));
+        assert_eq!(unfit(write(delta, &mut [0; 3])), (Element::DeltaQYDc, 0, 8));
     }
 }
 
@@ -313,7 +318,7 @@ fn case_9_uvlc() {
     };
     assert_eq!(
         unfit(write_sequence_header(&header, &mut [0; 32])),
-        (Element::NumTicksPerPictureMinus1, 0)
+        (Element::NumTicksPerPictureMinus1, 0, 33)
     );
 }
 
@@ -337,7 +342,7 @@ fn case_10_quantization() {
     params.base_q_idx = u32::MAX;
     assert_eq!(
         unfit(write_quantization_params(&params, &context, &mut out, 0)),
-        (Element::BaseQIdx, 0)
+        (Element::BaseQIdx, 0, 32)
     );
 }
 
@@ -444,7 +449,7 @@ fn loop_filter() {
     params.loop_filter_ref_deltas[7] = 64;
     assert_eq!(
         unfit(write_loop_filter_params(&params, &context, &mut [0; 32], 0)),
-        (Element::LoopFilterRefDeltas, 7)
+        (Element::LoopFilterRefDeltas, 7, 8)
     );
     params.loop_filter_ref_deltas[7] = 63;
     assert_eq!(
@@ -528,7 +533,7 @@ fn a_refusal_names_its_point_and_keeps_the_buffer() {
     let refusal = write_sequence_header(&header, &mut out).unwrap_err();
     assert_eq!(
         refusal.to_string(),
-        "operating_point_idc[2] does not fit its field"
+        "operating_point_idc[2] does not fit its field: 13 bits are needed"
     );
     header.seq_profile = 3;
     assert_eq!(
@@ -538,6 +543,54 @@ fn a_refusal_names_its_point_and_keeps_the_buffer() {
         "seq_profile is inconsistent"
     );
     assert_eq!(out, [0xA5; 1000]);
+}
+
+#[test]
+fn an_unfit_value_is_told_the_width_it_needs() {
+    let mut out = [0xA5; 64];
+    for (width_bits, width) in [(16, 5), (31, 5), (32, 6), (255, 8)] {
+        let header = SequenceHeaderObu {
+            frame_width_bits_minus_1: width_bits,
+            ..still()
+        };
+        assert_eq!(
+            unfit(write_sequence_header(&header, &mut out)),
+            (Element::FrameWidthBitsMinus1, 0, width)
+        );
+    }
+    for (level, width) in [(32, 6), (63, 6), (64, 7), (u32::MAX, 32)] {
+        let mut header = still();
+        header.operating_points[0].seq_level_idx = level;
+        assert_eq!(
+            unfit(write_sequence_header(&header, &mut out)),
+            (Element::SeqLevelIdx, 0, width)
+        );
+    }
+    assert_eq!(out, [0xA5; 64]);
+}
+
+#[test]
+fn no_width_helps() {
+    let context = CdefContext {
+        enable_cdef: true,
+        planes: 1,
+        ..Default::default()
+    };
+    for cdef_damping in [0, 2, 7, u32::MAX] {
+        let params = CdefParams {
+            cdef_damping,
+            ..Default::default()
+        };
+        let refusal = write_cdef_params(&params, &context, &mut [0; 8], 0).unwrap_err();
+        assert_eq!(
+            unfit::<u32>(Err(refusal)),
+            (Element::CdefDamping, 0, 0)
+        );
+        assert_eq!(
+            refusal.to_string(),
+            "cdef_damping does not fit its field: no width helps"
+        );
+    }
 }
 
 #[test]
