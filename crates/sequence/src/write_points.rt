@@ -182,7 +182,8 @@ fn reduced_delay(out: &mut [u8], c: Cursor, p: OperatingPoint) -> Step
 fn reduced_point_rest(out: &mut [u8], c: Cursor, p: OperatingPoint) -> Step
     ensures { λ s. ⌜ Walked (reduced-point-rest .enc (point-rest-out p)) c (now (out .entry)) s (now (out .exit)) ⌝ }
 {
-    let s = point_model(out, c, false, 0, p, 0);
+    let e = element::DECODER_MODEL_PRESENT_FOR_THIS_OP;
+    let s = unset(out, c, p.decoder_model_present_for_this_op, e);
     let Step::Next(c) = s else {
         return s;
     };
