@@ -582,10 +582,7 @@ fn no_width_helps() {
             ..Default::default()
         };
         let refusal = write_cdef_params(&params, &context, &mut [0; 8], 0).unwrap_err();
-        assert_eq!(
-            unfit::<u32>(Err(refusal)),
-            (Element::CdefDamping, 0, 0)
-        );
+        assert_eq!(unfit::<u32>(Err(refusal)), (Element::CdefDamping, 0, 0));
         assert_eq!(
             refusal.to_string(),
             "cdef_damping does not fit its field: no width helps"
