@@ -56,6 +56,7 @@ static void headers(void) {
   HEADER(operating_points[0].idc, 4096, OPERATING_POINT_IDC, 13);
   HEADER(operating_points[0].seq_level_idx, 0xFFFFFFFF, SEQ_LEVEL_IDX, 32);
   HEADER(frame_width_bits_minus_1, 16, FRAME_WIDTH_BITS_MINUS_1, 5);
+  HEADER(frame_width_bits_minus_1, 255, FRAME_WIDTH_BITS_MINUS_1, 8);
   HEADER(frame_width_bits_minus_1, 300, FRAME_WIDTH_BITS_MINUS_1, 9);
   HEADER(frame_width_bits_minus_1, 0xFFFFFFFF, FRAME_WIDTH_BITS_MINUS_1, 32);
   HEADER(frame_height_bits_minus_1, 256, FRAME_HEIGHT_BITS_MINUS_1, 9);
@@ -71,14 +72,21 @@ static void deltas(void) {
   quantization_params.context.planes = loop_filter_params.context.planes = 3;
   loop_filter_params.loop_filter_delta_enabled = loop_filter_params.loop_filter_delta_update = 1;
   PART(quantization_params, base_q_idx, 256, BASE_Q_IDX, 0, 9);
+  PART(quantization_params, base_q_idx, 511, BASE_Q_IDX, 0, 9);
+  PART(quantization_params, base_q_idx, 512, BASE_Q_IDX, 0, 10);
   PART(quantization_params, base_q_idx, -1, BASE_Q_IDX, 0, 32);
   PART(quantization_params, delta_q_y_dc, 64, DELTA_Q_Y_DC, 0, 8);
+  PART(quantization_params, delta_q_y_dc, 127, DELTA_Q_Y_DC, 0, 8);
   PART(quantization_params, delta_q_y_dc, -65, DELTA_Q_Y_DC, 0, 8);
+  PART(quantization_params, delta_q_y_dc, -128, DELTA_Q_Y_DC, 0, 8);
+  PART(quantization_params, delta_q_y_dc, -129, DELTA_Q_Y_DC, 0, 9);
   PART(quantization_params, delta_q_y_dc, 300, DELTA_Q_Y_DC, 0, 10);
-  PART(quantization_params, delta_q_u_ac, -129, DELTA_Q_U_AC, 0, 9);
-  PART(quantization_params, delta_q_u_dc, INT32_MAX, DELTA_Q_U_DC, 0, 32);
-  PART(quantization_params, delta_q_u_dc, INT32_MIN, DELTA_Q_U_DC, 0, 32);
+  PART(quantization_params, delta_q_y_dc, INT32_MAX, DELTA_Q_Y_DC, 0, 32);
+  PART(quantization_params, delta_q_y_dc, INT32_MIN, DELTA_Q_Y_DC, 0, 32);
+  PART(quantization_params, delta_q_u_dc, 300, DELTA_Q_U_DC, 0, 10);
+  PART(quantization_params, delta_q_u_ac, -300, DELTA_Q_U_AC, 0, 10);
   PART(loop_filter_params, loop_filter_level[1], 64, LOOP_FILTER_LEVEL, 1, 7);
+  PART(loop_filter_params, loop_filter_ref_deltas[5], 64, LOOP_FILTER_REF_DELTAS, 5, 8);
   PART(loop_filter_params, loop_filter_ref_deltas[7], 300, LOOP_FILTER_REF_DELTAS, 7, 10);
   PART(loop_filter_params, loop_filter_mode_deltas[1], -300, LOOP_FILTER_MODE_DELTAS, 1, 10);
 }

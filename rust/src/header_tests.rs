@@ -258,7 +258,7 @@ fn numbers_go_there_and_back() {
 }
 
 #[test]
-fn large_numbers_of_parts_stay_large() {
+fn large_numbers_of_parts_count_as_the_largest() {
     let context = LoopRestorationContext {
         planes: 3,
         ..Default::default()
@@ -268,5 +268,5 @@ fn large_numbers_of_parts_stay_large() {
         ..Default::default()
     };
     let numbers: [i32; 14] = signed(&context, &params);
-    assert_eq!((numbers[3], numbers[13]), (3, i32::MAX));
+    assert_eq!((numbers[3], numbers[13]), (3, -1));
 }

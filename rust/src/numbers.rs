@@ -119,13 +119,14 @@ pub(crate) fn from_unsigned<T: Numbers>(numbers: &[u32]) -> T {
 }
 
 /// The numbers of a part of the frame header: the context first. A number over 2^31 - 1 crosses as
-/// 2^31 - 1: every field of a part takes or refuses the two alike.
+/// -1, which counts as 2^32 - 1: every field of a part takes or refuses the two alike, and both need
+/// 32 bits.
 pub(crate) fn signed<const N: usize>(context: &impl Numbers, params: &impl Numbers) -> [i32; N] {
     let mut numbers = [0; N];
     let mut at = numbers.iter_mut();
     let mut put = |n| {
         if let Some(place) = at.next() {
-            *place = i32::try_from(n).unwrap_or(i32::MAX);
+            *place = i32::try_from(n).unwrap_or(-1);
         }
     };
     context.put(&mut put);
