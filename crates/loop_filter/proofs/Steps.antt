@@ -2,32 +2,24 @@
 use mathlib.Core.Path.{_≡_, refl}
 use mathlib.Core.List.{List}
 use mathlib.Core.Bool.{Bool, true, false, not}
-use Prim.Native.Nat.{ℕ, min}
+use Prim.Native.Nat.{ℕ}
 use borrow.Author.Tests.{eq-eqb, ne-eqb}
 use lib.Dec.{eqb}
 use lib.IntN.{ℤ}
 use mir.Syntax.{w32}
 use mir.Val.{SFits, toZ, ofZ}
-use Rattle.bits.specs.Walk.{mark, Walked}
+use Rattle.bits.specs.Walk.{mark, _⊕_, Walked}
 use Rattle.bits.specs.Codec.{flag, absent, choose, merged, _▷_}
 use Rattle.bits.specs.Codes.{su}
 use Rattle.bits.specs.declared.answer.Cursor.{Cursor}
-use Rattle.bits.specs.declared.answer.Refusal.{Refusal}
 use Rattle.bits.specs.declared.answer.Step.{Step}
-use Rattle.bits.specs.declared.answer.Step.the-variants.{Next, Refused}
 use Rattle.loop_filter.specs.LoopFilter.{chroma-coded, chroma-levels, delta}
 use Rattle.parts.proofs.Signs.{word}
-use Rattle.parts.proofs.Flags.{set-halt, set-then}
+use Rattle.parts.proofs.Flags.{set}
 
-module _ (old : ℤ) (e i : ℕ) (z : ℤ) {c : Cursor} {xs ys : List ℕ} {s : Step} where
-  pub delta-stops : {r : Refusal} → Walked (mark true) c xs s ys → s ≡ Refused r → Walked (delta old e i .enc z) c xs s ys
-  unfolding delta merged _▷_ flag choose absent
-  delta-stops g q = set-halt refl g q
-
-  pub delta-goes : {d : Cursor} {t : Step} {zs : List ℕ} → SFits w32 z → Walked (mark true) c xs s ys → s ≡ Next d
-      → Walked (su (min 7 32) e i .enc (toZ w32 (ofZ w32 z))) d ys t zs → Walked (delta old e i .enc z) c xs t zs
-  unfolding delta merged _▷_ flag choose absent
-  delta-goes f g q k = set-then refl g q (rw (word w32 z (f .sfits)) at k)
+pub delta-set : (old : ℤ) (e i : ℕ) (z : ℤ) {c : Cursor} {xs ys : List ℕ} {s : Step} → SFits w32 z → Walked (mark true ⊕ su 7 e i .enc (toZ w32 (ofZ w32 z))) c xs s ys → Walked (delta old e i .enc z) c xs s ys
+unfolding delta merged _▷_ flag choose absent
+delta-set old e i z f g = set refl (rw (word w32 z (f .sfits)) at g)
 
 -- whether levels 2 and 3 are coded
 module _ (planes a b : ℕ) where

@@ -2,6 +2,7 @@
 use crate::record::*;
 use bits::answer::*;
 use bits::element::*;
+use parts::delta::coded_delta;
 use parts::inferred::*;
 use parts::pair::pair;
 use parts::place::*;
@@ -53,15 +54,10 @@ fn levels(out: &mut [u8], c: Cursor, planes: u32, p: LoopFilterParams) -> Step
     )
 }
 
-// A set flag and the delta.
 fn delta(out: &mut [u8], c: Cursor, value: i32, element: u8, i: u8) -> Step
     ensures { λ s. ⌜ Walked (delta (pos 0) element i .enc value) c (now (out .entry)) s (now (out .exit)) ⌝ }
 {
-    let s = flag(out, c, true);
-    let Step::Next(c) = s else {
-        return s;
-    };
-    su(out, c, 7, value, element, i)
+    coded_delta(out, c, value, element, i)
 }
 
 fn ref_deltas(out: &mut [u8], c: Cursor, p: LoopFilterParams) -> Step

@@ -15,6 +15,10 @@ module _ {b : Bool} {w : Walk} {c : Cursor} {xs ys : List ℕ} {s : Step} where
   unfolding run join
   clear h g = rw h (as-run refl g)
 
+  pub set : b ≡ true → Walked (mark true ⊕ w) c xs s ys → Walked (mark b ⊕ either b w none) c xs s ys
+  unfolding run join
+  set h g = rw h (as-run refl g)
+
   pub set-halt : {r : Refusal} → b ≡ true → Walked (mark true) c xs s ys → s ≡ Refused r → Walked (mark b ⊕ either b w none) c xs s ys
   set-halt h g q = rw h (halt g q)
 

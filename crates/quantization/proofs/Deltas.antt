@@ -1,29 +1,26 @@
 -- How write_delta_q meets its table, and a record that of its deltas apart.
-use mathlib.Core.Path.{_≡_, refl, ap}
+use mathlib.Core.Path.{_≡_, ap}
 use mathlib.Core.List.{List}
 use mathlib.Core.Bool.{Bool, true, false, not}
-use Prim.Native.Nat.{ℕ, _+_, _<_, min}
+use Prim.Native.Nat.{ℕ}
 use lib.IntN.{ℤ, pos}
 use mir.Syntax.{w32}
 use mir.Val.{SFits, toZ, ofZ}
-use Rattle.bits.specs.Walk.{Walked, field, mark, run, _⊕_}
+use Rattle.bits.specs.Walk.{Walked, mark, _⊕_}
 use Rattle.bits.specs.Codec.{via, merged, _▷_, flag, choose, absent}
-use Rattle.bits.specs.Codes.{su, su-out}
+use Rattle.bits.specs.Codes.{su}
 use Rattle.bits.specs.Elements.{delta-q-u-dc, delta-q-u-ac}
 use Rattle.bits.specs.declared.answer.Answer.{Answer}
 use Rattle.bits.specs.declared.answer.Cursor.{Cursor}
-use Rattle.bits.specs.declared.answer.Refusal.{Refusal}
 use Rattle.bits.specs.declared.answer.Step.{Step}
-use Rattle.bits.specs.declared.answer.Step.the-variants.{Next, Refused}
 use Rattle.parts.specs.Codes.{same}
 use Rattle.parts.specs.Written.{Writes}
 use Rattle.quantization.specs.Quantization.{read-delta-q, v-deltas, uv-deltas, quantization-table, deltas-of, given, quantization-params}
 use Rattle.quantization.specs.declared.record.QuantizationParams.{QuantizationParams}
 use Rattle.quantization.specs.declared.record.QuantizationDeltas.{QuantizationDeltas}
 use Rattle.quantization.specs.declared.record.QuantizationContext.{QuantizationContext}
-use Rattle.parts.proofs.Flags.{clear, set-halt, set-then}
-use Rattle.parts.proofs.Signs.{same-eq, same-ne, word, word-is, zero-fits, su-run}
-use Rattle.parts.proofs.Packing.{flag-field}
+use Rattle.parts.proofs.Flags.{clear, set}
+use Rattle.parts.proofs.Signs.{same-eq, same-ne, word, word-is, zero-fits}
 
 module _ (z : ℤ) (f : SFits w32 z) where
   is-zero : ofZ w32 z ≡ 0 → same z (pos 0) ≡ true
@@ -37,20 +34,9 @@ module _ (e : ℕ) (z : ℤ) {c : Cursor} {xs ys : List ℕ} {s : Step} (f : SFi
   unfolding read-delta-q merged _▷_ flag choose absent
   delta-zero h g = clear (ap not (is-zero z f h)) g
 
-  pub delta-packed : (code : ℕ) {r : Refusal} → (ofZ w32 z ≡ 0 → ⊥) → code ≡ su-out 7 (toZ w32 (ofZ w32 z)) → code < 128 → Walked (field 8 (128 + code) r) c xs s ys → Walked (read-delta-q e .enc z) c xs s ys
-  unfolding read-delta-q merged _▷_ flag choose absent run
-  delta-packed code h q l g =
-      let x = su-run 7 code e 0 z (rw (word w32 z (f .sfits)) at q) l in
-      rw (not-zero z f h) (flag-field 7 128 code refl x l g)
-
-  pub delta-halt : {r : Refusal} → (ofZ w32 z ≡ 0 → ⊥) → Walked (mark true) c xs s ys → s ≡ Refused r → Walked (read-delta-q e .enc z) c xs s ys
+  pub delta-set : (ofZ w32 z ≡ 0 → ⊥) → Walked (mark true ⊕ su 7 e 0 .enc (toZ w32 (ofZ w32 z))) c xs s ys → Walked (read-delta-q e .enc z) c xs s ys
   unfolding read-delta-q merged _▷_ flag choose absent
-  delta-halt h g q = set-halt (ap not (not-zero z f h)) g q
-
-  pub delta-coded : {d : Cursor} {t : Step} {zs : List ℕ} → (ofZ w32 z ≡ 0 → ⊥) → Walked (mark true) c xs s ys → s ≡ Next d
-      → Walked (su (min 7 32) e 0 .enc (toZ w32 (ofZ w32 z))) d ys t zs → Walked (read-delta-q e .enc z) c xs t zs
-  unfolding read-delta-q merged _▷_ flag choose absent
-  delta-coded h g q k = set-then (ap not (not-zero z f h)) g q (rw (word w32 z (f .sfits)) at k)
+  delta-set h g = set (ap not (not-zero z f h)) (rw (word w32 z (f .sfits)) at g)
 
 -- the deltas of V go by those of U as they are coded
 pub uv-walk : (diff : Bool) (dc ac : ℤ) (v : ℤ × ℤ) {c : Cursor} {xs ys : List ℕ} {s : Step}

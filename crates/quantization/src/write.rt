@@ -1,8 +1,8 @@
-// 5.9.12 quantization_params, written.
-use crate::packed::write_delta_q;
+// 5.9.12 quantization_params and 5.9.13 read_delta_q, written.
 use crate::record::*;
 use bits::answer::*;
 use bits::element::*;
+use parts::delta::coded_delta;
 use parts::inferred::inferred_delta;
 use parts::pair::pair;
 use parts::place::*;
@@ -10,7 +10,16 @@ use writer::*;
 ghost use mathlib.Core.Path.{_≡_};
 ghost use Rattle.bits.specs.Walk.{Walked};
 ghost use Rattle.parts.specs.Written.{Writes};
-ghost use Rattle.quantization.specs.Quantization.{diff-uv, v-coded, v-inferred, v-deltas, v-out, uv-deltas, no-uv-deltas, uv-out, chroma, v-matrix, matrices, matrices-out, qmatrix, qmatrix-out, quantization-table, deltas-of, given, quantization-params};
+ghost use Rattle.quantization.specs.Quantization.{read-delta-q, diff-uv, v-coded, v-inferred, v-deltas, v-out, uv-deltas, no-uv-deltas, uv-out, chroma, v-matrix, matrices, matrices-out, qmatrix, qmatrix-out, quantization-table, deltas-of, given, quantization-params};
+
+fn write_delta_q(out: &mut [u8], c: Cursor, delta: i32, element: u8) -> Step
+    ensures { λ s. ⌜ Walked (read-delta-q element .enc delta) c (now (out .entry)) s (now (out .exit)) ⌝ }
+{
+    if delta == 0 {
+        return flag(out, c, false);
+    }
+    coded_delta(out, c, delta, element, 0)
+}
 
 fn diff_uv(out: &mut [u8], c: Cursor, separate: bool, diff: bool) -> Step
     ensures { λ s. ⌜ Walked (diff-uv separate .enc diff) c (now (out .entry)) s (now (out .exit)) ⌝ }

@@ -1,5 +1,5 @@
 use borrow.Author.Needs.{needs}
-use Rattle.loop_filter.proofs.Steps.{delta-stops, delta-goes}
+use Rattle.loop_filter.proofs.Steps.{delta-set}
 use Rattle.loop_filter.proofs.write.delta.Statement.{statement}
 use Rattle.loop_filter.proofs.write.delta.Tie as tie
 
@@ -7,5 +7,4 @@ pub delta-spec : {M : Type 1} → statement M
 delta-spec =
     tie.close
     (tie.spec
-    (λ c κs. search needs) (λ c. search needs) (λ c. search needs) (λ c. search needs) (λ c. search (delta-stops, delta-goes) depth 14)
-    (λ c κs. search needs) (λ c. search needs) (λ c. search (delta-stops, delta-goes) depth 14))
+    (λ c κs. search needs) (λ c. search needs) (λ c. search delta-set))
