@@ -4,13 +4,11 @@ use bits::answer::Answer;
 use obu::header::ObuHeader;
 use sequence::record::SequenceHeaderObu;
 use sequence_reader::read::Outcome;
-use sequence_reader::read::Part;
-ghost use mathlib.Core.Path.{_≡_};
 ghost use Rattle.obu.specs.Writer.{Writes};
 ghost use Rattle.obu.specs.Delimiter.{temporal-delimiter, IsDelimiter, Tells};
 ghost use Rattle.sequence.specs.Sequence.{sequence-header};
 ghost use Rattle.sequence_reader.specs.Reader.{Answers};
-ghost use Rattle.sequence_reader.specs.Payload.{payloadPart, Hands};
+ghost use Rattle.sequence_reader.specs.Payload.{Hands};
 
 pub fn write_sequence_header(record: SequenceHeaderObu, out: &mut [u8]) -> Answer
     ensures { λ r. ⌜ Writes (sequence-header .enc «record») (now (out .entry)) r (now (out .exit)) ⌝ }
@@ -34,12 +32,6 @@ pub fn read_sequence_header(input: &[u8], numbers: &mut [u32; 347]) -> Outcome
     ensures { λ r. ⌜ Answers (now (input .entry)) (now (numbers .entry)) r (now (numbers .exit)) ⌝ }
 {
     sequence_reader::read::read_sequence_header(input, numbers)
-}
-
-pub fn payload_part(input: &[u8]) -> Part
-    ensures { λ r. ⌜ r ≡ payloadPart (now (input .entry)) ⌝ }
-{
-    sequence_reader::read::payload_part(input)
 }
 
 pub fn payload(input: &[u8]) -> &[u8]
