@@ -1,7 +1,7 @@
 -- The width in a refusal is one value more, and nothing goes by it: what a walk comes to is, the width forgotten, what it comes to without widths.
 use mathlib.Core.Path.{_≡_, refl, ap, _∙_}
 use mathlib.Core.List.{[]}
-use mathlib.Core.Bool.{Bool, true, false, cond}
+use mathlib.Core.Bool.{cond}
 use Prim.Native.Nat.{_^_}
 use lib.Dec.{ltb}
 use Rattle.bits.specs.Bits.{Bits, toBits}
@@ -11,6 +11,7 @@ use Rattle.bits.specs.declared.answer.Answer.{Answer}
 use Rattle.bits.specs.declared.answer.Answer.the-variants.{Done, Refused}
 use Rattle.bits.specs.declared.answer.Refusal.{Refusal}
 use Rattle.bits.specs.declared.answer.Refusal.the-variants.{Inconsistent, Unfit, Short, Ends, Reserved, Size, Trailing, Long}
+use Rattle.bits.proofs.Laws.{cond-ap}
 
 abbrev pub forget : Refusal → Refusal
 forget (Inconsistent e i) = Inconsistent e i
@@ -46,14 +47,6 @@ without-widths (refuse r) = refuse (forget r)
 without-widths (either t a b) = either t (without-widths a) (without-widths b)
 without-widths (a ⊕ b) = without-widths a ⊕ without-widths b
 
-checked : (t : Bool) (bs : Bits) (r : Refusal) → cond t (wrote bs) (refuses (forget r)) ≡ forget-out (cond t (wrote bs) (refuses r))
-checked true bs r = refl
-checked false bs r = refl
-
-chosen : (t : Bool) (o p : Out) → cond t (forget-out o) (forget-out p) ≡ forget-out (cond t o p)
-chosen true o p = refl
-chosen false o p = refl
-
 joined : (e : End) (bs : Bits) (p : Out) → after (forget-end e) bs (forget-out p) ≡ forget-out (after e bs p)
 joined done bs p = refl
 joined (refused r) bs p = refl
@@ -61,11 +54,11 @@ joined (refused r) bs p = refl
 runs : (w : Walk) → run (without-widths w) ≡ forget-out (run w)
 unfolding without-widths run join
 runs none = refl
-runs (field n v r) = checked (ltb v (2 ^ n)) (toBits n v) r
+runs (field n v r) = cond-ap forget-out (ltb v (2 ^ n)) (wrote (toBits n v)) (refuses r)
 runs (mark b) = refl
-runs (demand t r) = checked t [] r
+runs (demand t r) = cond-ap forget-out t (wrote []) (refuses r)
 runs (refuse r) = refl
-runs (either t a b) = (λ i. cond t (runs a i) (runs b i)) ∙ chosen t (run a) (run b)
+runs (either t a b) = (λ i. cond t (runs a i) (runs b i)) ∙ cond-ap forget-out t (run a) (run b)
 runs (a ⊕ b) = (λ i. join (runs a i) (runs b i)) ∙ joined (run a .end) (run a .bits) (run b)
 
 -- the same bits, and the same end

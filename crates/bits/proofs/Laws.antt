@@ -134,6 +134,11 @@ pub join-none : {o : Out} {x : Bits} → o ≡ wrote x → join o (wrote []) ≡
 unfolding join
 join-none {o} {x} h = rw h (ap wrote (append-nil x))
 
+-- what a function makes of a cond is the cond of what it makes
+pub cond-ap : {A B : Type 0} (h : A → B) (t : Bool) (a b : A) → cond t (h a) (h b) ≡ h (cond t a b)
+cond-ap h true a b = refl
+cond-ap h false a b = refl
+
 -- a cond that came out as a value, or not as its other side
 pub cond-inv : {A : Type 0} (t : Bool) {a b r : A} → cond t a b ≡ r → ((b ≡ r) → ⊥) → (t ≡ true) × (a ≡ r)
 cond-inv true h n = (refl, h)

@@ -1,15 +1,14 @@
 -- Demand 3, for the sequence header's record.
 use mathlib.Core.Path.{_≡_, refl, sym, ap, _∙_}
 use mathlib.Core.List.{List}
-use mathlib.Core.Bool.{Bool, true, false, cond}
 use Prim.Native.Nat.{ℕ}
 use native.Mathlib.Omega.{arith}
 use lib.ListN.{length}
 use lib.Dec.{ltb}
 use Rattle.bits.specs.Bits.{Bits, bitsOf}
-use Rattle.bits.specs.Codec.{Codec, got, stop, andThen, via}
+use Rattle.bits.specs.Codec.{Codec, Got, got, stop, andThen, via}
 use Rattle.bits.specs.declared.answer.Refusal.the-variants.{Long}
-use Rattle.bits.proofs.Laws.{then-inv, got-value}
+use Rattle.bits.proofs.Laws.{cond-ap, then-inv, got-value}
 use Rattle.obu.specs.Obu.{obu}
 use Rattle.obu.specs.Demand3.{AreBytes, read, Consistent, Spells, Gives, Shortest, Demand3}
 use Rattle.obu.proofs.Demands.{demand3}
@@ -18,16 +17,13 @@ use Rattle.sequence.specs.Sequence.{sequence-header-obu, sequence-header
 use Rattle.sequence.proofs.Laws.{sequence-header-obu-law}
 use Rattle.sequence.proofs.Counts.{few}
 
--- a table for a struct has it as the tuple's table does
-module _ {A B : Type 0} (to : B → A) (from : A → B) (c : Codec A) (back : (a : A) → to (from a) ≡ a) (D : Demand3 c) where
-  struct-read : (xs : List ℕ) → read (via to from c) xs ≡ andThen (read c xs) (λ a rest. got (from a) rest)
-  unfolding read via
-  struct-read xs = go (ltb 65536 (length xs))
-    where
-      go : (b : Bool) → cond b (stop Long) (andThen (c .dec (bitsOf xs)) (λ a rest. got (from a) rest)) ≡ andThen (cond b (stop Long) (c .dec (bitsOf xs))) (λ a rest. got (from a) rest)
-      go true = refl
-      go false = refl
+-- a table for a struct is read as the tuple's table is
+pub struct-read : {A B : Type 0} (to : B → A) (from : A → B) (c : Codec A) (xs : List ℕ) → read (via to from c) xs ≡ andThen (read c xs) (λ a rest. got (from a) rest)
+unfolding read via
+struct-read {A} to from c xs = cond-ap (λ (g : Got A). andThen g (λ a rest. got (from a) rest)) (ltb 65536 (length xs)) (stop Long) (c .dec (bitsOf xs))
 
+-- and has demand 3 as that has
+module _ {A B : Type 0} (to : B → A) (from : A → B) (c : Codec A) (back : (a : A) → to (from a) ≡ a) (D : Demand3 c) where
   tuple : (b : B) (xs : List ℕ) → Spells (via to from c) b xs → Spells c (to b) xs
   unfolding via
   tuple b xs s = record { bytes = s .bytes; few = s .few; spelling = s .spelling }
@@ -39,7 +35,7 @@ module _ {A B : Type 0} (to : B → A) (from : A → B) (c : Codec A) (back : (a
   spelled : (xs : List ℕ) → AreBytes xs → (b : B) (rest : Bits) → read (via to from c) xs ≡ got b rest → Consistent (via to from c) b × Spells (via to from c) b xs × (via to from c .coded b ≡ b)
   unfolding via
   spelled xs X b rest h =
-      let u = then-inv (read c xs) (λ a rest. got (from a) rest) b rest (sym (struct-read xs) ∙ h) in
+      let u = then-inv (read c xs) (λ a rest. got (from a) rest) b rest (sym (struct-read to from c xs) ∙ h) in
       let is : u .0 ≡ to b = sym (back (u .0)) ∙ ap to (got-value (u .3)) in
       let g = D .accepted-is-spelled xs X (to b) (u .1) (u .2 ∙ ap (λ (a : A). got a (u .1)) is) in
       (g .0, struct b xs (g .1), ap from (g .2) ∙ ap from (sym is) ∙ got-value (u .3))
@@ -54,7 +50,7 @@ module _ {A B : Type 0} (to : B → A) (from : A → B) (c : Codec A) (back : (a
   unfolding via
   demand3-struct = record {
     accepted-is-spelled = spelled;
-    spelled-is-accepted = λ b xs s. struct-read xs ∙ rw (D .spelled-is-accepted (to b) xs (tuple b xs s));
+    spelled-is-accepted = λ b xs s. struct-read to from c xs ∙ rw (D .spelled-is-accepted (to b) xs (tuple b xs s));
     fields-are-fixed = λ a b xs s q. ap from (D .fields-are-fixed (to a) (to b) xs (tuple a xs s) (tuple b xs q));
     spelled-is-consistent = λ b xs s. D .spelled-is-consistent (to b) xs (tuple b xs s);
     consistent-is-written = is-written;

@@ -1,14 +1,12 @@
 -- What the public reader answers: each way out, in the order of the walk.
 use mathlib.Core.Path.{_≡_, refl, sym, ap, _∙_}
 use mathlib.Core.List.{List, [], _∷_}
-use mathlib.Core.Bool.{Bool, true, false, cond}
 use Prim.Native.Nat.{ℕ, _<_, _≤_}
 use lib.ListN.{length, replicate}
 use lib.Seq.{sets}
-use lib.Dec.{ltb}
 use mir.Val.{boolByte}
-use Rattle.bits.specs.Bits.{Bits, bitsOf}
-use Rattle.bits.specs.Codec.{Got, got, stop, andThen, via}
+use Rattle.bits.specs.Bits.{Bits}
+use Rattle.bits.specs.Codec.{Got, got, stop, andThen}
 use Rattle.bits.specs.Answers.{why, Said, step}
 use Rattle.bits.specs.declared.answer.Cursor.{Cursor}
 use Rattle.bits.specs.declared.answer.Refusal.{Refusal}
@@ -29,8 +27,9 @@ use Rattle.obu.proofs.ObuReading.{read-long, no-header, no-size, no-payload, no
 use Rattle.fill.specs.Fills.{at, of, nowhere, _▸_, Fills}
 use Rattle.fill.proofs.Filling.{Was, went, stopped}
 use Rattle.sequence.specs.declared.record.SequenceHeaderObu.{SequenceHeaderObu}
-use Rattle.sequence.specs.Fields.{record-in}
+use Rattle.sequence.specs.Fields.{record-out, record-in}
 use Rattle.sequence.specs.Sequence.{sequence-header-obu, sequence-header}
+use Rattle.sequence.proofs.Demand.{struct-read}
 use Rattle.sequence_reader.specs.declared.read.Outcome.{Outcome}
 use Rattle.sequence_reader.specs.declared.read.Outcome.the-variants.{Done, Refused}
 use Rattle.sequence_reader.specs.Layouts as row
@@ -38,12 +37,8 @@ use Rattle.sequence_reader.specs.Reader.{answer, answerFor, Answers, Hol
 
 -- the record is made of the header and the table's value
 as-record : (xs : List ℕ) → read sequence-header xs ≡ andThen (read (obu 1 sequence-header-obu) xs) (λ a rest. got (record-in a) rest)
-unfolding read sequence-header via
-as-record xs = go (ltb 65536 (length xs))
-  where
-    go : (b : Bool) → cond b (stop Long) (andThen (obu 1 sequence-header-obu .dec (bitsOf xs)) (λ a rest. got (record-in a) rest)) ≡ andThen (cond b (stop Long) (obu 1 sequence-header-obu .dec (bitsOf xs))) (λ a rest. got (record-in a) rest)
-    go true = refl
-    go false = refl
+unfolding sequence-header
+as-record xs = struct-read record-out record-in (obu 1 sequence-header-obu) xs
 
 no : (xs ns ms : List ℕ) {y : Refusal} → read (obu 1 sequence-header-obu) xs ≡ stop y → Holds xs ns (Refused y) ms
 no xs ns ms e = holds (rw (as-record xs, e))
