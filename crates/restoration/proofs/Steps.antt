@@ -14,10 +14,10 @@ use Rattle.bits.specs.declared.answer.Refusal.the-variants.{Inconsistent, Unfit
 use Rattle.bits.specs.declared.answer.Step.{Step}
 use Rattle.bits.specs.declared.answer.Step.the-variants.{Next, Refused}
 use Rattle.bits.proofs.Leaves.{field-run}
-use Rattle.bits.proofs.Walking.{halt-here, held-then, broken}
+use Rattle.bits.proofs.Walking.{hop, halt, halt-here, held-then, broken}
 use Rattle.restoration.specs.Restoration.{large-shift, small-shift, uv-shift, used, chroma-used, Uses, uses, kinds}
 use Rattle.restoration.specs.declared.record.LoopRestorationContext.{LoopRestorationContext}
-use Rattle.parts.proofs.Flags.{clear, set-halt, set-then}
+use Rattle.parts.proofs.Flags.{clear, set}
 use Rattle.parts.proofs.Packing.{both-run, by-field}
 
 module _ (v : ℕ) {c : Cursor} {xs : List ℕ} where
@@ -36,12 +36,12 @@ module _ (v : ℕ) {c : Cursor} {xs ys : List ℕ} {s : Step} where
 
   pub small-halt : {r : Refusal} → (v ≡ 0 → ⊥) → Walked (mark true) c xs s ys → s ≡ Refused r → Walked (small-shift .enc v) c xs s ys
   unfolding small-shift merged _▷_ flag choose absent f
-  small-halt h g q = set-halt (lt-ltb 0 v (omega arith)) g q
+  small-halt h g q = set (lt-ltb 0 v (omega arith)) (halt g q)
 
   pub small-coded : {d : Cursor} {t : Step} {zs : List ℕ} → (v ≡ 0 → ⊥) → Walked (mark true) c xs s ys → s ≡ Next d
       → Walked (field 1 (v - 1) (Unfit lr-unit-shift 0 0)) d ys t zs → Walked (small-shift .enc v) c xs t zs
   unfolding small-shift merged _▷_ flag choose absent f
-  small-coded h g q k = set-then (lt-ltb 0 v (omega arith)) g q k
+  small-coded h g q k = set (lt-ltb 0 v (omega arith)) (hop g q k)
 
 -- tests that functions make
 pub uv-by : (a b : Bool) (v : ℕ) {c : Cursor} {xs ys : List ℕ} {s : Step} → a ≡ b → Walked (uv-shift a .enc v) c xs s ys → Walked (uv-shift b .enc v) c xs s ys
