@@ -2,7 +2,7 @@
 use mathlib.Core.Bool.{Bool, true, false, cond, _&&_}
 use mathlib.Core.Logic.{⊎-elim}
 use mathlib.Core.List.{List, [], _∷_, _++_}
-use Prim.Native.Nat.{ℕ, zero, suc, _/_, _^_, _≤_, _<_}
+use Prim.Native.Nat.{ℕ, zero, suc, _+_, _/_, _^_, _≤_, _<_}
 use Prim.Native.String.{String}
 use native.Mathlib.Nat.{pow-suc}
 use native.Mathlib.Omega.{arith}
@@ -10,7 +10,7 @@ use lib.Dec.{T, eqb, ltb, leb, leb→le}
 use lib.ListN.{length, length-append}
 use borrow.Author.Tests.{ltb-true, ltb-false}
 use Rattle.words.specs.Names.{names, element, has-index}
-use Rattle.words.specs.Sentence.{place, needed, bits-needed, plain, sentence}
+use Rattle.words.specs.Sentence.{place, counted, needed, bits-needed, plain, sentence}
 use Rattle.words.specs.Text.{codes, find, digits, decimal}
 use Rattle.words.proofs.Digits.{small, large}
 use Rattle.words.proofs.Found.{either, left, right}
@@ -62,18 +62,19 @@ place-fits n e i h k =
       either-fits 12 (has-index n e) (codes "[" ++ decimal i ++ codes "]") [] (omega (arith, digits-of i k, length-append (decimal i) (codes "]"))) (omega arith),
     ))
 
+counted-fits : (n m : ℕ) (one many : List ℕ) → n < 2 ^ 32 → length one ≤ 10 + m → length many ≤ m → length (counted n one many) ≤ 10 + m
+unfolding counted
+counted-fits n m one many h k l = either-fits (10 + m) (eqb n 1) one (decimal n ++ many) k (omega (arith, digits-of n h, length-append (decimal n) many))
+
 needed-fits : (n : ℕ) → n < 2 ^ 32 → length (needed n) ≤ 27
 unfolding needed
-needed-fits n h =
-    either-fits 27 (eqb n 1) (codes "1 byte is needed") (decimal n ++ codes " bytes are needed") (omega arith)
-    (omega (arith, digits-of n h, length-append (decimal n) (codes " bytes are needed")))
+needed-fits n h = counted-fits n 17 (codes "1 byte is needed") (codes " bytes are needed") h (omega arith) (omega arith)
 
 bits-fits : (w : ℕ) → w < 2 ^ 32 → length (bits-needed w) ≤ 26
 unfolding bits-needed
 bits-fits w h =
-    either-fits 26 (eqb w 0) (codes "no width helps") (cond (eqb w 1) (codes "1 bit is needed") (decimal w ++ codes " bits are needed")) (omega arith)
-    (either-fits 26 (eqb w 1) (codes "1 bit is needed") (decimal w ++ codes " bits are needed") (omega arith)
-    (omega (arith, digits-of w h, length-append (decimal w) (codes " bits are needed"))))
+    either-fits 26 (eqb w 0) (codes "no width helps") (counted w (codes "1 bit is needed") (codes " bits are needed")) (omega arith)
+    (counted-fits w 16 (codes "1 bit is needed") (codes " bits are needed") h (omega arith) (omega arith))
 
 unfit-fits : (w : ℕ) → w < 2 ^ 32 → length (codes " does not fit its field: " ++ bits-needed w) ≤ 51
 unfit-fits w h = rw length-append (omega (arith, bits-fits w h))

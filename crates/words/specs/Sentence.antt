@@ -11,12 +11,16 @@ use Rattle.words.specs.Names.{element, has-index}
 unfoldable pub place : ℕ → ℕ → ℕ → List ℕ
 place number e i = element e ++ cond (has-index number e) (codes "[" ++ decimal i ++ codes "]") []
 
+-- the words for one thing, or a number and the words for so many
+unfoldable pub counted : ℕ → List ℕ → List ℕ → List ℕ
+counted n one many = cond (eqb n 1) one (decimal n ++ many)
+
 unfoldable pub needed : ℕ → List ℕ
-needed n = cond (eqb n 1) (codes "1 byte is needed") (decimal n ++ codes " bytes are needed")
+needed n = counted n (codes "1 byte is needed") (codes " bytes are needed")
 
 -- the least width that would have held a value
 unfoldable pub bits-needed : ℕ → List ℕ
-bits-needed w = cond (eqb w 0) (codes "no width helps") (cond (eqb w 1) (codes "1 bit is needed") (decimal w ++ codes " bits are needed"))
+bits-needed w = cond (eqb w 0) (codes "no width helps") (counted w (codes "1 bit is needed") (codes " bits are needed"))
 
 -- the answers that tell nothing more
 unfoldable pub plain : List (ℕ × String)

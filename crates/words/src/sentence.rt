@@ -4,7 +4,7 @@ use crate::names::has_index;
 use crate::put::byte;
 use crate::put::decimal;
 use crate::put::text;
-ghost use Rattle.words.specs.Sentence.{place as Sentence·place, needed as Sentence·needed, bits-needed as Sentence·bits-needed, sentence as Sentence·sentence};
+ghost use Rattle.words.specs.Sentence.{place as Sentence·place, counted as Sentence·counted, needed as Sentence·needed, bits-needed as Sentence·bits-needed, sentence as Sentence·sentence};
 ghost use Rattle.words.specs.Text.{Put};
 
 fn place(out: &mut [u8], number: u32, e: u32, index: u32) -> usize
@@ -19,14 +19,20 @@ fn place(out: &mut [u8], number: u32, e: u32, index: u32) -> usize
     at
 }
 
+fn counted(out: &mut [u8], at: usize, n: u32, one: &[u8], many: &[u8]) -> usize
+    ensures { λ r. ⌜ Put (now (out .entry)) at (Sentence·counted n (now (one .entry)) (now (many .entry))) r (now (out .exit)) ⌝ }
+{
+    if n == 1 {
+        return text(out, at, one);
+    }
+    let at = decimal(out, at, n as u64);
+    text(out, at, many)
+}
+
 fn needed(out: &mut [u8], at: usize, n: u32) -> usize
     ensures { λ r. ⌜ Put (now (out .entry)) at (Sentence·needed n) r (now (out .exit)) ⌝ }
 {
-    if n == 1 {
-        return text(out, at, b"1 byte is needed");
-    }
-    let at = decimal(out, at, n as u64);
-    text(out, at, b" bytes are needed")
+    counted(out, at, n, b"1 byte is needed", b" bytes are needed")
 }
 
 fn bits_needed(out: &mut [u8], at: usize, width: u32) -> usize
@@ -35,11 +41,7 @@ fn bits_needed(out: &mut [u8], at: usize, width: u32) -> usize
     if width == 0 {
         return text(out, at, b"no width helps");
     }
-    if width == 1 {
-        return text(out, at, b"1 bit is needed");
-    }
-    let at = decimal(out, at, width as u64);
-    text(out, at, b" bits are needed")
+    counted(out, at, width, b"1 bit is needed", b" bits are needed")
 }
 
 pub fn sentence(out: &mut [u8], number: u32, first: u32, second: u32, third: u32) -> usize
