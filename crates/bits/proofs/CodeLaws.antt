@@ -79,7 +79,7 @@ module _ (e i z v : ℕ) (few : z ≤ 31) (lo : 2 ^ z ≤ v + 1) (hi : v + 1 < 2
   unfolding uvlc run join
   uvlc-writes =
       let p : 2 ^ suc z ≤ 2 ^ 32 = pow-mono {j = 32} (omega arith) in
-      let t : widthUpTo 33 (v + 1) ≡ suc z = up-to-is 33 (v + 1) (omega arith) ∙ bit-is (v + 1) z lo hi in
+      let t : widthUpTo 32 (v + 1) ≡ suc z = up-to-is 32 (v + 1) (omega arith) ∙ bit-is (v + 1) z lo hi in
       let k : suc z - 1 ≡ z = omega arith in
       rw (t, k, lt-ltb v (2 ^ 32 - 1) (omega arith), lt-ltb 0 (2 ^ z) (pow-pos z), no-bits z, lt-ltb (v + 1) (2 ^ suc z) hi)
 

@@ -17,12 +17,13 @@ unary m e i (true ∷ bs) = got 0 (true ∷ bs)
 unary zero e i (false ∷ bs) = stop (Inconsistent e i)
 unary (suc m) e i (false ∷ bs) = andThen (unary m e i bs) (λ z rest. got (suc z) rest)
 
--- uvlc: with L the bit length of v + 1, L - 1 zeros and then v + 1 in L bits. (What is written has an L of at most 32; up to 33 it is for every v.)
+-- uvlc: with L the bit length of v + 1, L - 1 zeros and then v + 1 in L bits. (32 bits hold every v + 1 that is written; L is looked for
+-- no further, so that the walk has a bound for any v.)
 -- Difference (docs/DIFFERENCES.md, rows 6 and 8): the standard codes 2^32 - 1 as 32 zeros and a one, and reads 32 zeros as 2^32 - 1. Document 01
 -- refuses both; the crate writes 32 zeros and no one.
 unfoldable pub uvlc : ℕ → ℕ → Codec ℕ
 uvlc e i = single
-    (λ v. let L = widthUpTo 33 (v + 1) in demand (ltb v (2 ^ 32 - 1)) (Unfit e i (bitLength (v + 1))) ⊕ unsigned (L - 1) 0 0 0 ⊕ unsigned L (v + 1) e i)
+    (λ v. let L = widthUpTo 32 (v + 1) in demand (ltb v (2 ^ 32 - 1)) (Unfit e i (bitLength (v + 1))) ⊕ unsigned (L - 1) 0 0 0 ⊕ unsigned L (v + 1) e i)
     (λ bs. andThen (unary 31 e i bs) (λ z rest. andThen (f (z + 1) e i .dec rest) (λ w end. got (w - 1) end)))
 
 -- su(n): two's complement in n bits; a number out of range goes to 2^n, which no n bits hold. (`pos m` is m, and `negsuc m` is -(m + 1).)

@@ -69,7 +69,7 @@ reduced-bound v = omega (arith, array-bound no-point (λ _. reduced-point) 40 (�
 -- the timing, and the width of the delays where a model is written
 timing-bound : (t : Timing) → bound (timing .enc t) ≤ 300
 unfolding timing timing-info-if timing-info ticks-per-picture uvlc flag-if decoder-model-info-if decoder-model-info via _▷_ choose select absent f flag inferredFlag bound
-timing-bound t = omega (arith, up-to-most 33 (t .«timing_info» .«num_ticks_per_picture_minus_1» + 1))
+timing-bound t = omega (arith, up-to-most 32 (t .«timing_info» .«num_ticks_per_picture_minus_1» + 1))
 
 model-width : (present : Bool) (d : DecoderModelInfo) (x : Bits) → decoder-model-info-if present .spells d x → decoder-model-info-if present .coded d .«buffer_delay_length_minus_1» < 32
 unfolding decoder-model-info-if choose absent decoder-model-info via _▷_ f

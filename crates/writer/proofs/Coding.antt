@@ -34,7 +34,7 @@ module _ (v L : ℕ) (few : v < 2 ^ 32) (fits : v ≡ 4294967295 → ⊥) (is : 
   pub uvlc-done : (e i : ℕ) {c d : Cursor} {xs ys zs : List ℕ} {s : Step} → Walked (unsigned (L - 1) 0 0 0) c xs (Next d) ys → Walked (unsigned L (v + 1) e i) d ys s zs → Walked (uvlc e i .enc v) c xs s zs
   unfolding uvlc
   uvlc-done e i w u =
-      let q : widthUpTo 33 (v + 1) ≡ L = up-to-is 33 (v + 1) (omega arith) ∙ sym is in
+      let q : widthUpTo 32 (v + 1) ≡ L = up-to-is 32 (v + 1) (omega arith) ∙ sym is in
       held-then (lt-ltb v (2 ^ 32 - 1) (omega arith)) (rw q (hop w refl u))
 
 pub uvlc-unfit : (v e i : ℕ) {c : Cursor} {xs : List ℕ} → v ≡ 4294967295 → Walked (uvlc e i .enc v) c xs (Refused (Unfit e i 33)) xs
