@@ -1,5 +1,5 @@
 -- Numbers as the bits of a field.
-use mathlib.Core.Path.{_≡_, refl, ap}
+use mathlib.Core.Path.{_≡_, ap}
 use mathlib.Core.Bool.{Bool, true, false, cond}
 use Prim.Native.Nat.{ℕ, _-_, _^_, _≤_, _<_}
 use native.Mathlib.Omega.{arith}
@@ -8,7 +8,6 @@ use lib.IntN.{negsuc}
 use mir.Syntax.{w32}
 use mir.Val.{toZ}
 use borrow.Author.Tests.{lt-ltb, le-ltb, eq-eqb, ne-eqb}
-use Rattle.replay.specs.declared.fields.Coded.{Coded}
 use Rattle.replay.specs.declared.fields.Coded.the-variants.{Code, Bad}
 use Rattle.replay.specs.Fields.{most, most-below, coded}
 

@@ -1,5 +1,5 @@
 -- What a field of a case line holds, by its kind: the letters f (a flag), n, b, d and h, as their ASCII codes.
-use mathlib.Core.Bool.{Bool, true, false, cond}
+use mathlib.Core.Bool.{Bool, cond}
 use Prim.Native.Nat.{ℕ, _-_, _^_}
 use lib.Dec.{ltb, eqb}
 use Rattle.replay.specs.declared.fields.Coded.{Coded}

@@ -1,6 +1,6 @@
 -- The record's numbers, in the order of the case lines: the context first.
 use mathlib.Core.List.{List}
-use Prim.Native.Nat.{ℕ, _+_}
+use Prim.Native.Nat.{_+_}
 use lib.IntN.{ℤ}
 use Rattle.bits.specs.Walk.{Walk}
 use Rattle.segmentation.specs.Segmentation as segmentation

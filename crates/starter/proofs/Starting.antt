@@ -8,7 +8,6 @@ use lib.ListN.{length, getD, replicate}
 use Rattle.bits.specs.Elements.{frame-width-bits-minus-1, frame-height-bits-minus-1, twelve-bit}
 use Rattle.bits.specs.declared.answer.Refusal.{Refusal}
 use Rattle.bits.specs.declared.answer.Refusal.the-variants.{Inconsistent, Unfit}
-use Rattle.fill.proofs.Lying.{Items}
 use Rattle.bits.specs.declared.answer.Answer.{Answer}
 use Rattle.bits.specs.declared.answer.Answer.the-variants.{Refused}
 use Rattle.obu.specs.Writer.{Writes}
