@@ -2,7 +2,7 @@
 use mathlib.Core.Path.{_≡_, refl, sym, ap, _∙_}
 use mathlib.Core.List.{List, [], _∷_, _++_, map, append-assoc, append-nil}
 use mathlib.Core.Logic.{⊎-elim}
-use Prim.Native.Nat.{ℕ, zero, suc, _+_, _-_, _*_, _<_, _≤_, min}
+use Prim.Native.Nat.{ℕ, zero, suc, _+_, _*_, _<_, _≤_, min}
 use native.Mathlib.Omega.{arith}
 use native.Mathlib.Numerals.{add-one}
 use lib.ListN.{length, replicate, set, take, getD, length-append, length-replicate, List·getD-append}
@@ -67,9 +67,6 @@ module _ {A : Type 0} {f : ℕ → A} {m : ℕ} {list : List A} {i : ℕ} where
   pub filled-on : Filled f m list i → i < m → {a : A} → a ≡ f i → Filled f m (set list i a) (i + 1)
   unfolding joined
   filled-on (filled g) h {a} e = rw (e, add-one i) (filled (one-more (f i) g (length-each f i) h))
-
-  pub filled-has : Filled f m list i → i < m → i < length list
-  filled-has (filled (begun rest k e)) h = rw (e, length-append, length-each f i) (omega (arith, length-each f i))
 
   -- a loop over the first k places, or all of them
   module _ {end : ℕ} (k : ℕ) (ends : end ≡ min k m) where

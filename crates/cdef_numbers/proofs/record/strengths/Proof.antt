@@ -2,7 +2,7 @@
 use Prim.Native.Nat.{_+_, _-_}
 use borrow.Author.Needs.{needs}
 use Rattle.numbers.specs.Numbers.{natural-at}
-use Rattle.numbers.proofs.Filling.{Filled, filled-none, filled-on, filled-has, filled-end}
+use Rattle.numbers.proofs.Filling.{Filled, filled-none, filled-on, filled-end}
 use Rattle.cdef_numbers.proofs.record.strengths.Statement.{statement}
 use Rattle.cdef_numbers.proofs.record.strengths.Tie as tie
 
@@ -18,4 +18,4 @@ strengths-spec =
     (tie.spec
     Inv-loop
     μ-loop
-    (λ c. filled-none 0) (λ c. search needs) (λ c κs. search needs) (λ c. search needs) (λ c. search filled-has) (λ c. search needs) (λ c. search needs) (λ c. search filled-on) (λ c. search filled-end))
+    (λ c. filled-none 0) (λ c. search needs) (λ c κs. search needs) (λ c. search needs) (λ c. search needs) (λ c. search needs) (λ c. search needs) (λ c. search filled-on) (λ c. search filled-end))

@@ -4,7 +4,7 @@ use borrow.Author.Needs.{needs}
 use lib.IntN.{pos}
 use Rattle.numbers.specs.Numbers.{signed-at}
 use Rattle.numbers.specs.Held.{int16}
-use Rattle.numbers.proofs.Filling.{Filled, filled-none, filled-on, filled-has, filled-map}
+use Rattle.numbers.proofs.Filling.{Filled, filled-none, filled-on, filled-map}
 use Rattle.numbers.proofs.Narrowing.{stored}
 use Rattle.segmentation_numbers.proofs.record.feature_data.Statement.{statement}
 use Rattle.segmentation_numbers.proofs.record.feature_data.Tie as tie
@@ -21,4 +21,4 @@ feature-data-spec =
     (tie.spec
     Inv-loop
     μ-loop
-    (λ c. filled-none (pos 0)) (λ c. search needs) (λ c κs. search needs) (λ c. search needs) (λ c. search filled-has) (λ c. search needs) (λ c. search needs) (λ c. search (filled-on, stored)) (λ c. search filled-map))
+    (λ c. filled-none (pos 0)) (λ c. search needs) (λ c κs. search needs) (λ c. search needs) (λ c. search needs) (λ c. search needs) (λ c. search needs) (λ c. search (filled-on, stored)) (λ c. search filled-map))

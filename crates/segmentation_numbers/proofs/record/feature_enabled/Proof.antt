@@ -3,7 +3,7 @@ use Prim.Native.Nat.{_+_, _-_}
 use borrow.Author.Needs.{needs}
 use mathlib.Core.Bool.{false}
 use Rattle.numbers.specs.Numbers.{set-at}
-use Rattle.numbers.proofs.Filling.{Filled, filled-none, filled-on, filled-has, filled-end}
+use Rattle.numbers.proofs.Filling.{Filled, filled-none, filled-on, filled-end}
 use Rattle.segmentation_numbers.proofs.record.feature_enabled.Statement.{statement}
 use Rattle.segmentation_numbers.proofs.record.feature_enabled.Tie as tie
 
@@ -19,4 +19,4 @@ feature-enabled-spec =
     (tie.spec
     Inv-loop
     μ-loop
-    (λ c. filled-none false) (λ c. search needs) (λ c κs. search needs) (λ c. search filled-has) (λ c. search needs) (λ c. search needs) (λ c. search filled-on) (λ c. search filled-end))
+    (λ c. filled-none false) (λ c. search needs) (λ c κs. search needs) (λ c. search needs) (λ c. search needs) (λ c. search needs) (λ c. search filled-on) (λ c. search filled-end))
