@@ -15,7 +15,7 @@ extern "C" {
 #endif
 
 /* The version of this header: 10000 * major + 100 * minor + patch. */
-#define FRISCURELLA_VERSION 400
+#define FRISCURELLA_VERSION 500
 
 /* The version of the library. A program that finds another than FRISCURELLA_VERSION is linked with
    an archive that this header does not describe. */
@@ -120,6 +120,7 @@ enum {
   FRISCURELLA_ELEMENT_SUBSAMPLING_Y = 44,
   FRISCURELLA_ELEMENT_CHROMA_SAMPLE_POSITION = 45,
   FRISCURELLA_ELEMENT_SEPARATE_UV_DELTA_Q = 46,
+  FRISCURELLA_ELEMENT_NUM_PLANES = 47,
   FRISCURELLA_ELEMENT_BASE_Q_IDX = 51,
   FRISCURELLA_ELEMENT_DELTA_Q_Y_DC = 52,
   FRISCURELLA_ELEMENT_DIFF_UV_DELTA = 53,
@@ -216,7 +217,7 @@ struct friscurella_operating_point {
 };
 
 /* color_config (5.5.2). sRGB is color_primaries 1, transfer_characteristics 13 and
-   matrix_coefficients 0; there are three planes if not mono_chrome. */
+   matrix_coefficients 0; "with three planes" is where mono_chrome is not set. */
 struct friscurella_color_config {
   uint32_t high_bitdepth;                  /* f(1) */
   uint32_t twelve_bit;                     /* f(1), in profile 2 with high_bitdepth; else 0 */
@@ -235,6 +236,7 @@ struct friscurella_color_config {
   uint32_t chroma_sample_position;         /* f(2), with three planes of 4:2:0 that are not sRGB;
                                               else 0 */
   uint32_t separate_uv_delta_q;            /* f(1), with three planes; else 0 */
+  uint32_t num_planes;                     /* NumPlanes, not coded: 1 if mono_chrome; else 3 */
 };
 
 /* A sequence header OBU (5.5.1). */
@@ -297,7 +299,7 @@ struct friscurella_sequence_header {
    but planes and primary_ref_frame are flags. */
 
 struct friscurella_quantization_context {
-  int32_t planes;              /* 1 if mono_chrome; any other number counts as 3 */
+  int32_t planes;              /* num_planes: any number but 1 counts as 3 */
   int32_t separate_uv_delta_q; /* of the sequence header's color_config */
 };
 
@@ -345,7 +347,7 @@ struct friscurella_segmentation_params {
 struct friscurella_loop_filter_context {
   int32_t coded_lossless; /* CodedLossless */
   int32_t allow_intrabc;  /* of the frame header */
-  int32_t planes;         /* 1 if mono_chrome; any other number counts as 3 */
+  int32_t planes;         /* num_planes: any number but 1 counts as 3 */
 };
 
 /* loop_filter_params (5.9.11). Nothing is coded with coded_lossless or allow_intrabc. */
@@ -366,7 +368,7 @@ struct friscurella_cdef_context {
   int32_t coded_lossless; /* CodedLossless */
   int32_t allow_intrabc;  /* of the frame header */
   int32_t enable_cdef;    /* of the sequence header */
-  int32_t planes;         /* 1 if mono_chrome; any other number counts as 3 */
+  int32_t planes;         /* num_planes: any number but 1 counts as 3 */
 };
 
 /* cdef_params (5.9.19). Nothing is coded with coded_lossless or allow_intrabc or without
@@ -386,7 +388,7 @@ struct friscurella_lr_context {
   int32_t all_lossless;           /* AllLossless */
   int32_t allow_intrabc;          /* of the frame header */
   int32_t enable_restoration;     /* of the sequence header */
-  int32_t planes;                 /* 1 if mono_chrome; any other number counts as 3 */
+  int32_t planes;                 /* num_planes: any number but 1 counts as 3 */
   int32_t use_128x128_superblock; /* of the sequence header */
   int32_t subsampling_x;          /* of its color_config */
   int32_t subsampling_y;          /* of its color_config */
@@ -488,7 +490,7 @@ bool friscurella_is_temporal_delimiter(const uint8_t *input, size_t length);
 FRISCURELLA_NUMBERS(answer, 4);
 FRISCURELLA_NUMBERS(part, 2);
 FRISCURELLA_NUMBERS(obu_header, 5);
-FRISCURELLA_NUMBERS(sequence_header, 347);
+FRISCURELLA_NUMBERS(sequence_header, 348);
 FRISCURELLA_NUMBERS(quantization_params, 13);
 FRISCURELLA_NUMBERS(segmentation_params, 133);
 FRISCURELLA_NUMBERS(loop_filter_params, 20);

@@ -136,6 +136,7 @@ class Maker(random.Random):
         q.subsampling_x, q.subsampling_y = (1, 1) if q.mono_chrome else (0, 0) if srgb else sampling
         q.chroma_sample_position = self.upto(3) if q.subsampling_x and q.subsampling_y and not q.mono_chrome else 0
         q.separate_uv_delta_q = 0 if q.mono_chrome else self.flag()
+        q.NumPlanes = 1 if q.mono_chrome else 3
 
     def planes(self):
         return self.choice((1, 1, 3, 3, 3, 0, 2, 2**32 - 1))

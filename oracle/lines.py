@@ -16,7 +16,8 @@ FIELDS = {
         enable_jnt_comp:b enable_ref_frame_mvs:b seq_choose_screen_content_tools:b seq_force_screen_content_tools seq_choose_integer_mv:b
         seq_force_integer_mv order_hint_bits_minus_1:u8 OrderHintBits enable_superres:b enable_cdef:b enable_restoration:b high_bitdepth:b
         twelve_bit:b mono_chrome:b color_description_present_flag:b color_primaries transfer_characteristics matrix_coefficients
-        color_range:b subsampling_x:b subsampling_y:b chroma_sample_position separate_uv_delta_q:b film_grain_params_present:b""",
+        color_range:b subsampling_x:b subsampling_y:b chroma_sample_position separate_uv_delta_q:b NumPlanes
+        film_grain_params_present:b""",
     "td": HEADER,
     "quant": """planes separate_uv_delta_q:b base_q_idx delta_q_y_dc:i8 diff_uv_delta:b delta_q_u_dc:i8 delta_q_u_ac:i8 delta_q_v_dc:i8
         delta_q_v_ac:i8 using_qmatrix:b qm_y qm_u qm_v""",

@@ -19,7 +19,7 @@ ELEMENTS = dict(enumerate("""obu_type temporal_id spatial_id seq_profile reduced
     additional_frame_id_length_minus_1 enable_interintra_compound enable_masked_compound enable_warped_motion enable_dual_filter
     enable_order_hint enable_jnt_comp enable_ref_frame_mvs seq_force_screen_content_tools seq_force_integer_mv order_hint_bits_minus_1
     OrderHintBits twelve_bit mono_chrome color_primaries transfer_characteristics matrix_coefficients color_range subsampling_x
-    subsampling_y chroma_sample_position separate_uv_delta_q""".split(), 1))
+    subsampling_y chroma_sample_position separate_uv_delta_q NumPlanes""".split(), 1))
 ELEMENTS.update(enumerate("""base_q_idx delta_q_y_dc diff_uv_delta delta_q_u_dc delta_q_u_ac delta_q_v_dc delta_q_v_ac qm_y qm_u qm_v
     segmentation_update_map segmentation_temporal_update segmentation_update_data feature_enabled feature_data loop_filter_level
     loop_filter_ref_deltas loop_filter_mode_deltas loop_filter_sharpness cdef_bits cdef_y_pri_strength cdef_y_sec_strength
@@ -252,6 +252,14 @@ class Writer:
             self.demand(not q.mono_chrome, "mono_chrome")
         else:
             self.flag(q.mono_chrome)
+        self.color_rest(q)
+        self.plane_count(q)
+
+    # request 7: behind all of 5.5.2
+    def plane_count(self, q):
+        self.demand(q.NumPlanes == (1 if q.mono_chrome else 3), "NumPlanes")
+
+    def color_rest(self, q):
         self.color_description(q)
         if q.mono_chrome:
             self.flag(q.color_range)

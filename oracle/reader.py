@@ -106,6 +106,7 @@ class Reader:
         q.high_bitdepth = self.f(1)
         q.twelve_bit = self.f(1) if q.seq_profile == 2 and q.high_bitdepth else 0
         q.mono_chrome = 0 if q.seq_profile == 1 else self.f(1)
+        q.NumPlanes = 1 if q.mono_chrome else 3
         q.color_description_present_flag = self.f(1)
         q.color_primaries, q.transfer_characteristics, q.matrix_coefficients = (
             (self.f(8), self.f(8), self.f(8)) if q.color_description_present_flag else (2, 2, 2))

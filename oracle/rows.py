@@ -5,7 +5,7 @@ the crate's answer to the letter, also which bits were out before a refusal; eac
 disagreement only if it says exactly what the crate answered.
 """
 from lines import WHOLE, altered
-from model import DEFAULT_REF_DELTAS, ELEMENTS, WALKS, Writer, stored
+from model import DEFAULT_REF_DELTAS, ELEMENTS, WALKS, Refused, Writer, stored
 
 RULES = {
     1: "the crate's bytes or bits so far are in the buffer; where this row decides, both refuse under the same name",
@@ -19,6 +19,7 @@ RULES = {
     11: "f(n) with n over 32: the crate gives up with an error",
     12: "an uncoded twelve_bit that is set: not looked at by the crate",
     13: "an uncoded chroma_sample_position that is not 0, not mono: not looked at by the crate",
+    14: "a number of planes that mono_chrome forbids, with a later element of the colour that is refused: the crate names NumPlanes first",
     15: "a value that the crate's type cannot hold",
     18: "deltas of V with diff_uv_delta 0: the crate compares with 0 and not with U's",
     19: "segmentation with a primary reference: the crate writes temporal_update for update_data",
@@ -53,6 +54,15 @@ OWN_REF_DELTAS = [1, 0, 0, 0, 0, -1, -1, -1]
 
 class Stop(Exception):
     """How the crate ended: a form and a reason, as the driver says them."""
+
+
+def refuses(walk):
+    """Whether a walk of the model is refused."""
+    try:
+        walk(Writer())
+    except Refused:
+        return True
+    return False
 
 
 class Crate(Writer):
@@ -138,6 +148,15 @@ class Crate(Writer):
             self.row(12)
             q = altered(q, twelve_bit=0)
         super().color_config(q)
+
+    def color_rest(self, q):
+        if not self.release and refuses(lambda walk: walk.plane_count(q)) and refuses(lambda walk: walk.color_rest(q)):
+            self.row(14)
+        super().plane_count(q)
+        super().color_rest(q)
+
+    def plane_count(self, q):
+        pass
 
     def uncoded_chroma_sample_position(self, q):
         if q.chroma_sample_position != 0:

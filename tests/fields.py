@@ -61,7 +61,7 @@ REST = [
     "order_hint_bits_minus_1", "OrderHintBits", "enable_superres", "enable_cdef", "enable_restoration",
     "high_bitdepth", "twelve_bit", "mono_chrome", "color_description_present_flag",
     "color_primaries", "transfer_characteristics", "matrix_coefficients", "color_range",
-    "subsampling_x", "subsampling_y", "chroma_sample_position", "separate_uv_delta_q", "film_grain_params_present",
+    "subsampling_x", "subsampling_y", "chroma_sample_position", "separate_uv_delta_q", "NumPlanes", "film_grain_params_present",
     "trailing_one_bit",
 ]
 
@@ -91,7 +91,7 @@ def inferred(v, points, size):
         "OrderHintBits": v.get("order_hint_bits_minus_1", -1) + 1, "twelve_bit": 0, "mono_chrome": 0,
         "color_primaries": 2, "transfer_characteristics": 2, "matrix_coefficients": 2, "color_range": 1,
         "subsampling_x": x, "subsampling_y": 0 if v.get("subsampling_x") == 0 else y,
-        "chroma_sample_position": 0, "separate_uv_delta_q": 0,
+        "chroma_sample_position": 0, "separate_uv_delta_q": 0, "NumPlanes": 1 if v.get("mono_chrome") == 1 else 3,
         "operating_point_idc[0]": 0,
     }
     for i in range(points):

@@ -54,22 +54,22 @@ def obu(payload, size=420):
 HEADER = "1 0 1 0 0 "
 TIMING = " 0 0 0 0 "
 MODEL = " 0 0 0 0 0 "
-COLOR = " 0 0 %d 0 2 2 2 0 1 1 0 0 "
+COLOR = " 0 0 %d 0 2 2 2 0 1 1 0 0 %d "
 
 
-def still(width_bits, width, level=0, points="1 0 %d 0 0 0 0 0 0 0"):
+def still(width_bits, width, level=0, points="1 0 %d 0 0 0 0 0 0 0", planes=1):
     """Case 2: reduced still, 1 by 1, mono, other coded fields 0, inferred ones as inferred."""
     return (
         HEADER + "0 1 1 0" + TIMING + MODEL + "0 0 " + points % level + " %d 0 %d 0 " % (width_bits, width)
-        + "0 0 0  0 0 0  0 0 0 0 0 0 0  0 2 0 2  0 0  0 0 0" + COLOR % 1 + "0"
+        + "0 0 0  0 0 0  0 0 0 0 0 0 0  0 2 0 2  0 0  0 0 0" + COLOR % (1, planes) + "0"
     )
 
 
-def hd(timing_flag="0", timing=TIMING, points="1 0 8 0 0 0 0 0 0 0"):
+def hd(timing_flag="0", timing=TIMING, points="1 0 8 0 0 0 0 0 0 0", planes=3):
     """Case 6: 1920 by 1080."""
     return (
         HEADER + "0 0 0 " + timing_flag + timing + MODEL + "0 0 " + points + " 10 10 1919 1079 "
-        + "0 0 0  1 1 1  1 1 1 1 1 1 1  1 2 1 2  6 7  0 1 1" + COLOR % 0 + "0"
+        + "0 0 0  1 1 1  1 1 1 1 1 1 1  1 2 1 2  6 7  0 1 1" + COLOR % (0, planes) + "0"
     )
 
 
@@ -187,6 +187,16 @@ case(CDEF.replace("1 1 0 3 1", "1 1 0 3 16", 1) + ";buf=A5", "2 71 0 5 A5")
 for shift in 3, 4, 2**32 - 1:
     case(LR % shift + ";buf=A5", "2 79 0 0 A5")
     case(LR.replace("lr 0 0 1 1 0", "lr 0 0 1 1 1") % shift + ";buf=A5", "2 79 0 0 A5")
+
+# The plane count (request 7): 1 with mono_chrome and 3 without, looked at behind separate_uv_delta_q, the element before it, and before the buffer's length.
+for planes in 0, 2, 3, 4, 255, 2**32 - 1:
+    case("seq " + still(0, 0, planes=planes) + ";buf=A5", "1 47 0 A5")
+for planes in 0, 1, 2, 4, 255, 2**32 - 1:
+    case("seq " + hd(planes=planes) + ";buf=A5", "1 47 0 A5")
+case("seq " + still(0, 0, planes=3).replace("0 1 1 0 0 3 0", "0 1 1 0 1 3 0") + ";buf=A5", "1 46 0 A5")
+case("seq " + still(0, 0, planes=3).replace("0 1 1 0 0 3 0", "0 1 1 1 0 3 0") + ";buf=A5", "1 45 0 A5")
+case("seq " + hd(planes=1).replace("0 1 1 0 0 1 0", "0 1 1 4 0 1 0") + ";buf=A5", "2 45 0 3 A5")
+case("seq " + hd(planes=1).replace("2 2 2 0 1 1", "2 2 3 0 1 1") + ";buf=A5", "1 41 0 A5")
 
 # What the crate, the model of document 01 and real streams say.
 for name in "oracle", "read", "bad":

@@ -122,16 +122,16 @@ fn sequence(n: &mut Numbers) -> Result<SequenceHeaderObu, Not> {
     q.enable_cdef = n.flag()?;
     q.enable_restoration = n.flag()?;
     q.color_config = color_config(n)?;
+    q.num_planes = n.u("NumPlanes")?;
     q.film_grain_params_present = n.flag()?;
     derived(&mut q);
     Ok(q)
 }
 
-/// The two fields that the crate keeps beside the coded ones, as the standard derives them (5.5.2).
+/// BitDepth, which the crate keeps beside the coded fields, as the standard derives it (5.5.2).
 fn derived(q: &mut SequenceHeaderObu) {
     let twelve = q.seq_profile == Profile::Profile2 && q.color_config.twelve_bit;
     q.bit_depth = match (q.color_config.high_bitdepth, twelve) { (false, _) => BitDepth::Depth8, (true, false) => BitDepth::Depth10, (true, true) => BitDepth::Depth12 };
-    q.num_planes = if q.color_config.mono_chrome { 1 } else { 3 };
 }
 
 fn quantization(n: &mut Numbers, q: &mut SequenceHeaderObu) -> Result<FrameHeaderObu, Not> {

@@ -12,9 +12,9 @@ pub type Answer = [u32; 4];
 extern "C" {
     fn friscurella_version() -> u32;
     fn friscurella_explain(answer: &Answer, text: *mut u8, size: usize) -> u32;
-    fn friscurella_video(width: u32, height: u32, bit_depth: u32, record: &mut [u32; 347]);
+    fn friscurella_video(width: u32, height: u32, bit_depth: u32, record: &mut [u32; 348]);
     fn friscurella_write_sequence_header(
-        record: &[u32; 347],
+        record: &[u32; 348],
         out: *mut u8,
         length: usize,
         answer: &mut Answer,
@@ -63,7 +63,7 @@ extern "C" {
     fn friscurella_read_sequence_header(
         input: *const u8,
         length: usize,
-        record: &mut [u32; 347],
+        record: &mut [u32; 348],
         answer: &mut Answer,
     ) -> u32;
     fn friscurella_payload(input: *const u8, length: usize, part: &mut [u32; 2]);
@@ -82,8 +82,8 @@ pub fn explain(answer: &Answer, text: &mut [u8]) -> usize {
     unsafe { friscurella_explain(answer, text.as_mut_ptr(), text.len()) as usize }
 }
 
-pub fn video(width: u32, height: u32, bit_depth: u32) -> [u32; 347] {
-    let mut record = [0; 347];
+pub fn video(width: u32, height: u32, bit_depth: u32) -> [u32; 348] {
+    let mut record = [0; 348];
     // SAFETY: `record` is a local.
     unsafe { friscurella_video(width, height, bit_depth, &mut record) };
     record
@@ -103,7 +103,7 @@ macro_rules! writers {
 }
 
 writers! {
-    write_sequence_header friscurella_write_sequence_header [u32; 347] ();
+    write_sequence_header friscurella_write_sequence_header [u32; 348] ();
     write_temporal_delimiter friscurella_write_temporal_delimiter [u32; 5] ();
     write_quantization_params friscurella_write_quantization_params [i32; 13] (place);
     write_segmentation_params friscurella_write_segmentation_params [i32; 133] (place);
@@ -112,8 +112,8 @@ writers! {
     write_lr_params friscurella_write_lr_params [i32; 14] (place);
 }
 
-pub fn read_sequence_header(input: &[u8]) -> ([u32; 347], Answer) {
-    let (mut record, mut answer) = ([0; 347], [0; 4]);
+pub fn read_sequence_header(input: &[u8]) -> ([u32; 348], Answer) {
+    let (mut record, mut answer) = ([0; 348], [0; 4]);
     // SAFETY: `input` is lent for the call, with its own length; `record` and `answer` are locals.
     unsafe {
         friscurella_read_sequence_header(input.as_ptr(), input.len(), &mut record, &mut answer)

@@ -179,6 +179,7 @@ fn elements_are_those_of_the_library_and_of_the_c_header() {
 
     let constant = |element: &Element| match element {
         Element::OrderHintBits => "ORDER_HINT_BITS".to_string(),
+        Element::NumPlanes => "NUM_PLANES".to_string(),
         element => element.name().to_uppercase(),
     };
     let numbered = |e| (constant(e), e.number() as usize);
@@ -214,7 +215,7 @@ fn what_is_not_known_is_a_refusal() {
         [9, 0, 0, 0],
         [u32::MAX, 1, 2, 3],
         [1, 0, 0, 0],
-        [1, 47, 0, 0],
+        [1, 48, 0, 0],
         [2, 81, 5, 9],
         [2, 256 + 1, 0, 0],
     ] {
@@ -250,7 +251,7 @@ fn numbers_go_there_and_back() {
         next += 1;
         next % 256
     });
-    let there: [u32; 347] = unsigned(&header);
+    let there: [u32; 348] = unsigned(&header);
     assert_eq!(there[20], 21);
     let mut numbers = there.into_iter().map(i64::from);
     let back = SequenceHeaderObu::take(&mut || numbers.next().unwrap());

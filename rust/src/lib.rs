@@ -51,7 +51,7 @@ pub use record::*;
 pub use refusal::{Element, Refusal};
 
 /// The version of the library that this crate is for: 10000 * major + 100 * minor + patch.
-pub const VERSION: u32 = 400;
+pub const VERSION: u32 = 500;
 
 /// The version of the library that is linked. Another than [`VERSION`] may answer what this crate
 /// does not know.
@@ -60,7 +60,7 @@ pub fn version() -> u32 {
 }
 
 // The lengths of the arrays that cross.
-const _: () = assert!(SequenceHeaderObu::COUNT == 347 && ObuHeader::COUNT == 5);
+const _: () = assert!(SequenceHeaderObu::COUNT == 348 && ObuHeader::COUNT == 5);
 const _: () = assert!(QuantizationContext::COUNT + QuantizationParams::COUNT == 13);
 const _: () = assert!(SegmentationContext::COUNT + SegmentationParams::COUNT == 133);
 const _: () = assert!(LoopFilterContext::COUNT + LoopFilterParams::COUNT == 20);

@@ -105,7 +105,7 @@ record! {
 
 record! {
     /// `color_config` (5.5.2). sRGB is `color_primaries` 1, `transfer_characteristics` 13 and
-    /// `matrix_coefficients` 0; there are three planes if not `mono_chrome`.
+    /// `matrix_coefficients` 0; "with three planes" is where `mono_chrome` is not set.
     #[derive(Clone, Copy, Debug, Default, PartialEq, Eq, Hash)]
     pub struct ColorConfig {
         /// f(1)
@@ -134,16 +134,19 @@ record! {
         pub chroma_sample_position: u32,
         /// f(1), with three planes; else 0.
         pub separate_uv_delta_q: bool,
+        /// `NumPlanes`, not coded: 1 if `mono_chrome`; else 3.
+        pub num_planes: u32,
     }
 }
 
 impl ColorConfig {
-    /// All 0, but for a colour description that is not there: 2, 2, 2.
+    /// All 0, but for three planes and a colour description that is not there: 2, 2, 2.
     pub fn unspecified() -> ColorConfig {
         ColorConfig {
             color_primaries: 2,
             transfer_characteristics: 2,
             matrix_coefficients: 2,
+            num_planes: 3,
             ..ColorConfig::default()
         }
     }
@@ -254,7 +257,7 @@ record! {
     /// What the headers say before `quantization_params`.
     #[derive(Clone, Copy, Debug, Default, PartialEq, Eq, Hash)]
     pub struct QuantizationContext {
-        /// 1 if `mono_chrome`; any other number counts as 3.
+        /// `num_planes`: any number but 1 counts as 3.
         pub planes: u32,
         /// Of the sequence header's `color_config`.
         pub separate_uv_delta_q: bool,
@@ -334,7 +337,7 @@ record! {
         pub coded_lossless: bool,
         /// Of the frame header.
         pub allow_intrabc: bool,
-        /// 1 if `mono_chrome`; any other number counts as 3.
+        /// `num_planes`: any number but 1 counts as 3.
         pub planes: u32,
     }
 }
@@ -371,7 +374,7 @@ record! {
         pub allow_intrabc: bool,
         /// Of the sequence header.
         pub enable_cdef: bool,
-        /// 1 if `mono_chrome`; any other number counts as 3.
+        /// `num_planes`: any number but 1 counts as 3.
         pub planes: u32,
     }
 }
@@ -406,7 +409,7 @@ record! {
         pub allow_intrabc: bool,
         /// Of the sequence header.
         pub enable_restoration: bool,
-        /// 1 if `mono_chrome`; any other number counts as 3.
+        /// `num_planes`: any number but 1 counts as 3.
         pub planes: u32,
         /// Of the sequence header.
         pub use_128x128_superblock: bool,

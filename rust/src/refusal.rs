@@ -197,6 +197,7 @@ elements! {
     44 SubsamplingY "subsampling_y",
     45 ChromaSamplePosition "chroma_sample_position",
     46 SeparateUvDeltaQ "separate_uv_delta_q",
+    47 NumPlanes "NumPlanes",
     51 BaseQIdx "base_q_idx",
     52 DeltaQYDc "delta_q_y_dc",
     53 DiffUvDelta "diff_uv_delta",

@@ -52,6 +52,7 @@ fn still() -> SequenceHeaderObu {
             mono_chrome: true,
             subsampling_x: true,
             subsampling_y: true,
+            num_planes: 1,
             ..ColorConfig::unspecified()
         },
         ..Default::default()
@@ -139,6 +140,7 @@ fn rich() -> SequenceHeaderObu {
             subsampling_y: true,
             chroma_sample_position: 2,
             separate_uv_delta_q: true,
+            num_planes: 3,
             ..Default::default()
         },
         film_grain_params_present: true,

@@ -22,7 +22,8 @@ AFTER_POINTS = [
     "order_hint_bits_minus_1", "OrderHintBits", "enable_superres", "enable_cdef", "enable_restoration",
     "high_bitdepth", "twelve_bit", "mono_chrome", "color_description_present_flag",
     "color_primaries", "transfer_characteristics", "matrix_coefficients", "color_range",
-    "subsampling_x", "subsampling_y", "chroma_sample_position", "separate_uv_delta_q", "film_grain_params_present",
+    "subsampling_x", "subsampling_y", "chroma_sample_position", "separate_uv_delta_q", "NumPlanes",
+    "film_grain_params_present",
 ]
 
 
@@ -44,7 +45,7 @@ def filled(v):
     inferred = {
         "seq_force_screen_content_tools": 2, "seq_force_integer_mv": 2, "OrderHintBits": order_hint_bits,
         "color_primaries": 2, "transfer_characteristics": 2, "matrix_coefficients": 2, "color_range": 1,
-        "subsampling_x": x, "subsampling_y": y,
+        "subsampling_x": x, "subsampling_y": y, "NumPlanes": 1 if v.get("mono_chrome") else 3,
     }
     return inferred | v
 

@@ -139,6 +139,9 @@ chroma-sample-position = 45
 abbrev pub separate-uv-delta-q : ℕ
 separate-uv-delta-q = 46
 
+abbrev pub num-planes : ℕ
+num-planes = 47
+
 abbrev pub base-q-idx : ℕ
 base-q-idx = 51
 

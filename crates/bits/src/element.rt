@@ -91,6 +91,8 @@ pub const CHROMA_SAMPLE_POSITION: u8 = 45;
 
 pub const SEPARATE_UV_DELTA_Q: u8 = 46;
 
+pub const NUM_PLANES: u8 = 47;
+
 pub const BASE_Q_IDX: u8 = 51;
 
 pub const DELTA_Q_Y_DC: u8 = 52;

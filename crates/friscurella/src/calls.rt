@@ -9,6 +9,7 @@ use restoration_numbers::write_restoration_numbers;
 use segmentation_numbers::write_segmentation_numbers;
 use sequence_numbers::write_delimiter_numbers;
 use sequence_numbers::write_sequence_numbers;
+use sequence_reader::place;
 use sequence_reader::read::Outcome;
 use sequence_reader::read::payload_part;
 use sequence_reader::read::read_sequence_header;
@@ -58,7 +59,7 @@ fn outcome_numbers(o: Outcome) -> Numbered
 pub extern "C" fn friscurella_version() -> u32
     ensures { λ r. ⌜ r ≡ version ⌝ }
 {
-    400
+    500
 }
 
 // One sentence on an answer, cut where there is no room for it and a 0 byte. Returns the length of the whole sentence.
@@ -76,7 +77,7 @@ pub extern "C" fn friscurella_video(
     width: u32,
     height: u32,
     bit_depth: u32,
-    record: &mut [u32; 347],
+    record: &mut [u32; place::NUMBERS],
 )
     ensures { λ _. ⌜ now («record» .exit) ≡ numbers-of (video width height «bit_depth») ⌝ }
 {
@@ -85,7 +86,7 @@ pub extern "C" fn friscurella_video(
 
 #[no_mangle]
 pub extern "C" fn friscurella_write_sequence_header(
-    record: &[u32; 347],
+    record: &[u32; place::NUMBERS],
     out: &mut [u8],
     answer: &mut [u32; 4],
 ) -> u32
@@ -176,7 +177,7 @@ pub extern "C" fn friscurella_write_lr_params(
 #[no_mangle]
 pub extern "C" fn friscurella_read_sequence_header(
     input: &[u8],
-    record: &mut [u32; 347],
+    record: &mut [u32; place::NUMBERS],
     answer: &mut [u32; 4],
 ) -> u32
     ensures { λ r. ⌜ lent r (now (answer .exit)) (now («record» .exit)) ≡ was-read (read sequence-header (now (input .entry))) (now («record» .entry)) ⌝ }

@@ -25,7 +25,7 @@ fn samples(s: &[u8], c: Cursor, twelve: bool, x: bool, y: bool, free: bool) -> C
     f_if(s, c, free && x && y, 2, b"chroma_sample_position", 0)
 }
 
-fn planes(s: &[u8], c: Cursor, n: &[u32; 347]) -> Cursor {
+fn planes(s: &[u8], c: Cursor, n: &[u32; place::NUMBERS]) -> Cursor {
     let mono = n[place::MONO_CHROME] != 0;
     let is_srgb = srgb(
         mono,
@@ -41,12 +41,18 @@ fn planes(s: &[u8], c: Cursor, n: &[u32; 347]) -> Cursor {
     flag_if(s, c, !mono, b"separate_uv_delta_q", false)
 }
 
-pub fn color_config(s: &[u8], c: Cursor, n: &[u32; 347]) -> Cursor {
+fn num_planes(count: u32) {
+    inferred(b"NumPlanes", count as u64);
+}
+
+pub fn color_config(s: &[u8], c: Cursor, n: &[u32; place::NUMBERS]) -> Cursor {
     let profile = n[place::SEQ_PROFILE];
     let high = n[place::HIGH_BITDEPTH] != 0;
     let c = flag(s, c, b"high_bitdepth");
     let c = flag_if(s, c, profile == 2 && high, b"twelve_bit", false);
     let c = flag_if(s, c, profile != 1, b"mono_chrome", false);
     let c = color_description(s, c, n[place::COLOR_DESCRIPTION_PRESENT_FLAG] != 0);
-    planes(s, c, n)
+    let c = planes(s, c, n);
+    num_planes(n[place::NUM_PLANES]);
+    c
 }

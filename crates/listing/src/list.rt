@@ -17,7 +17,7 @@ fn start() -> Cursor {
 }
 
 // The timing and the operating points.
-fn general(s: &[u8], c: Cursor, n: &[u32; 347]) -> Cursor {
+fn general(s: &[u8], c: Cursor, n: &[u32; place::NUMBERS]) -> Cursor {
     if n[place::REDUCED_STILL_PICTURE_HEADER] != 0 {
         return reduced_points(s, c);
     }
@@ -32,7 +32,7 @@ fn general(s: &[u8], c: Cursor, n: &[u32; 347]) -> Cursor {
 }
 
 // 5.5.1; the conditions of its fields are those of the record that was read.
-fn sequence_header_obu(s: &[u8], c: Cursor, n: &[u32; 347]) -> Cursor {
+fn sequence_header_obu(s: &[u8], c: Cursor, n: &[u32; place::NUMBERS]) -> Cursor {
     let c = f(s, c, 3, b"seq_profile");
     let c = flag(s, c, b"still_picture");
     let c = flag(s, c, b"reduced_still_picture_header");
@@ -56,7 +56,7 @@ fn sequence_header_obu(s: &[u8], c: Cursor, n: &[u32; 347]) -> Cursor {
     flag(s, c, b"film_grain_params_present")
 }
 
-fn sequence_header(s: &[u8], n: &[u32; 347]) {
+fn sequence_header(s: &[u8], n: &[u32; place::NUMBERS]) {
     heading();
     let c = obu_header(s, start(), n[place::EXTENSION_FLAG] != 0);
     let c = obu_size(s, c, n[place::HAS_SIZE_FIELD] != 0);
@@ -88,7 +88,7 @@ pub fn list(input: &[u8]) {
     if temporal_delimiter(input) {
         return;
     }
-    let mut n = [0u32; 347];
+    let mut n = [0u32; place::NUMBERS];
     let o = read_sequence_header(input, &mut n);
     match o {
         Outcome::Done => sequence_header(input, &n),

@@ -66,7 +66,7 @@ fn operating_point(
 }
 
 // The points up to the one with the number `last`.
-fn operating_points(s: &[u8], c: Cursor, last: u32, n: &[u32; 347]) -> Cursor {
+fn operating_points(s: &[u8], c: Cursor, last: u32, n: &[u32; place::NUMBERS]) -> Cursor {
     let has_model = n[place::DECODER_MODEL_INFO_PRESENT_FLAG] != 0;
     let delay_width = width(n[place::BUFFER_DELAY_LENGTH_MINUS_1]);
     let has_delay = n[place::INITIAL_DISPLAY_DELAY_PRESENT_FLAG] != 0;
@@ -94,7 +94,7 @@ fn operating_points(s: &[u8], c: Cursor, last: u32, n: &[u32; 347]) -> Cursor {
 }
 
 // Of the full header.
-pub fn points(s: &[u8], c: Cursor, n: &[u32; 347]) -> Cursor {
+pub fn points(s: &[u8], c: Cursor, n: &[u32; place::NUMBERS]) -> Cursor {
     let c = flag(s, c, b"initial_display_delay_present_flag");
     let c = f(s, c, 5, b"operating_points_cnt_minus_1");
     operating_points(s, c, n[place::OPERATING_POINTS_CNT_MINUS_1], n)

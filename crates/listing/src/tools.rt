@@ -57,7 +57,7 @@ fn reduced_tools() {
     inferred(b"OrderHintBits", 0);
 }
 
-pub fn inter_tools(s: &[u8], c: Cursor, n: &[u32; 347]) -> Cursor {
+pub fn inter_tools(s: &[u8], c: Cursor, n: &[u32; place::NUMBERS]) -> Cursor {
     if n[place::REDUCED_STILL_PICTURE_HEADER] != 0 {
         reduced_tools();
         return c;

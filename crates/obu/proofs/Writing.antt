@@ -2,7 +2,7 @@
 -- the slice and only counts, the second over the slice.
 use mathlib.Core.Path.{_≡_, refl, sym, ap, _∙_}
 use mathlib.Core.List.{List, [], _∷_, _++_}
-use mathlib.Core.Bool.{cond}
+use mathlib.Core.Bool.{Bool, true, false, cond}
 use Prim.Native.Nat.{ℕ, _+_, _≤_, _<_}
 use native.Mathlib.Omega.{arith}
 use borrow.Author.Tests.{lt-ltb, le-ltb}
@@ -53,6 +53,16 @@ module _ (w : Walk) (xs : List ℕ) (l : length xs ≤ 65536) (bs : Bits) (e : r
   -- every byte beyond the count is left
   pub beyond : wholeBytes (length bs) ≤ length xs → drop (wholeBytes (length bs)) (written w xs .bytes) ≡ drop (wholeBytes (length bs)) xs
   beyond h = rw (fits h) (put-beyond xs 0 bs (wholeBytes (length bs)) (omega arith))
+
+-- A record is written where its walk came to its end
+pub done-is-ended : {w : Walk} {xs ys : List ℕ} {a : Answer} {n : ℕ} → Writes w xs a ys → a ≡ Done n → run w .end ≡ done
+unfolding written
+done-is-ended {w} {xs} {a} {n} (writes p q) e = go (run w .end) refl (ltb 65536 (length xs)) refl
+  where
+    go : (k : End) → run w .end ≡ k → (t : Bool) → ltb 65536 (length xs) ≡ t → run w .end ≡ done
+    go done h t u = h
+    go (refused r) h true u = let k : Done n ≡ Refused Long = sym e ∙ rw (h, u) at p in let z : _≡_ {A = ℕ} 0 1 = cc in absurd (omega arith)
+    go (refused r) h false u = let k : Done n ≡ Refused r = sym e ∙ rw (h, u) at p in let z : _≡_ {A = ℕ} 0 1 = cc in absurd (omega arith)
 
 -- A walk that is done wrote its bits
 pub wrote-all : (o : Out) → o .end ≡ done → o ≡ wrote (o .bits)

@@ -1,5 +1,6 @@
 // The calls for C on OBUs once more: each function has the contract of the call of its name, and does nothing but call it. The wrong programs in
 // must-fail/ are other bodies: what a contract rules out is tried here, where a try takes seconds.
+use sequence_reader::place;
 ghost use mathlib.Core.Path.{_≡_};
 ghost use Rattle.obu.specs.Delimiter.{temporal-delimiter, IsDelimiter, Tells};
 ghost use Rattle.obu.specs.Demand3.{read};
@@ -9,7 +10,7 @@ ghost use Rattle.sequence_reader.specs.Payload.{payloadPart};
 ghost use Rattle.friscurella.specs.Calls.{version, lent, wrote-obu, was-read, part-numbers};
 
 pub fn friscurella_write_sequence_header(
-    record: &[u32; 347],
+    record: &[u32; place::NUMBERS],
     out: &mut [u8],
     answer: &mut [u32; 4],
 ) -> u32
@@ -30,7 +31,7 @@ pub fn friscurella_write_temporal_delimiter(
 
 pub fn friscurella_read_sequence_header(
     input: &[u8],
-    record: &mut [u32; 347],
+    record: &mut [u32; place::NUMBERS],
     answer: &mut [u32; 4],
 ) -> u32
     ensures { λ r. ⌜ lent r (now (answer .exit)) (now («record» .exit)) ≡ was-read (read sequence-header (now (input .entry))) (now («record» .entry)) ⌝ }

@@ -3,6 +3,7 @@
 use bits::answer::Answer;
 use obu::header::ObuHeader;
 use sequence::record::SequenceHeaderObu;
+use sequence_reader::place;
 use sequence_reader::read::Outcome;
 ghost use Rattle.obu.specs.Writer.{Writes};
 ghost use Rattle.obu.specs.Delimiter.{temporal-delimiter, IsDelimiter, Tells};
@@ -28,7 +29,7 @@ pub fn is_temporal_delimiter(input: &[u8]) -> bool
     obu::delimiter::is_temporal_delimiter(input)
 }
 
-pub fn read_sequence_header(input: &[u8], numbers: &mut [u32; 347]) -> Outcome
+pub fn read_sequence_header(input: &[u8], numbers: &mut [u32; place::NUMBERS]) -> Outcome
     ensures { λ r. ⌜ Answers (now (input .entry)) (now (numbers .entry)) r (now (numbers .exit)) ⌝ }
 {
     sequence_reader::read::read_sequence_header(input, numbers)

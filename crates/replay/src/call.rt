@@ -21,10 +21,10 @@ fn signed(code: u32) -> i32
 }
 
 // The first numbers of a record.
-fn all_signed(record: &[u32; 347], to: &mut [i32]) {
+fn all_signed(record: &[u32; place::NUMBERS], to: &mut [i32]) {
     let mut i = 0;
     while i < to.len() {
-        if 347 <= i {
+        if place::NUMBERS <= i {
             return;
         }
         to[i] = signed(record[i]);
@@ -32,7 +32,7 @@ fn all_signed(record: &[u32; 347], to: &mut [i32]) {
     }
 }
 
-fn td(record: &[u32; 347], out: &mut [u8], answer: &mut [u32; 4]) -> u32 {
+fn td(record: &[u32; place::NUMBERS], out: &mut [u8], answer: &mut [u32; 4]) -> u32 {
     let r = [
         record[place::OBU_TYPE],
         record[place::EXTENSION_FLAG],
@@ -43,31 +43,31 @@ fn td(record: &[u32; 347], out: &mut [u8], answer: &mut [u32; 4]) -> u32 {
     friscurella_write_temporal_delimiter(&r, out, answer)
 }
 
-fn quant(record: &[u32; 347], place: u32, out: &mut [u8], answer: &mut [u32; 4]) -> u32 {
+fn quant(record: &[u32; place::NUMBERS], place: u32, out: &mut [u8], answer: &mut [u32; 4]) -> u32 {
     let mut r = [0i32; 13];
     all_signed(record, &mut r);
     friscurella_write_quantization_params(&r, place, out, answer)
 }
 
-fn seg(record: &[u32; 347], place: u32, out: &mut [u8], answer: &mut [u32; 4]) -> u32 {
+fn seg(record: &[u32; place::NUMBERS], place: u32, out: &mut [u8], answer: &mut [u32; 4]) -> u32 {
     let mut r = [0i32; 133];
     all_signed(record, &mut r);
     friscurella_write_segmentation_params(&r, place, out, answer)
 }
 
-fn lf(record: &[u32; 347], place: u32, out: &mut [u8], answer: &mut [u32; 4]) -> u32 {
+fn lf(record: &[u32; place::NUMBERS], place: u32, out: &mut [u8], answer: &mut [u32; 4]) -> u32 {
     let mut r = [0i32; 20];
     all_signed(record, &mut r);
     friscurella_write_loop_filter_params(&r, place, out, answer)
 }
 
-fn cdef(record: &[u32; 347], place: u32, out: &mut [u8], answer: &mut [u32; 4]) -> u32 {
+fn cdef(record: &[u32; place::NUMBERS], place: u32, out: &mut [u8], answer: &mut [u32; 4]) -> u32 {
     let mut r = [0i32; 38];
     all_signed(record, &mut r);
     friscurella_write_cdef_params(&r, place, out, answer)
 }
 
-fn lr(record: &[u32; 347], place: u32, out: &mut [u8], answer: &mut [u32; 4]) -> u32 {
+fn lr(record: &[u32; place::NUMBERS], place: u32, out: &mut [u8], answer: &mut [u32; 4]) -> u32 {
     let mut r = [0i32; 14];
     all_signed(record, &mut r);
     friscurella_write_lr_params(&r, place, out, answer)
@@ -75,7 +75,7 @@ fn lr(record: &[u32; 347], place: u32, out: &mut [u8], answer: &mut [u32; 4]) ->
 
 fn writer(
     word: Word,
-    record: &[u32; 347],
+    record: &[u32; place::NUMBERS],
     place: u32,
     out: &mut [u8],
     answer: &mut [u32; 4],
@@ -94,7 +94,7 @@ fn writer(
 
 // Answers a writer's line, whose numbers begin at a place.
 pub fn write(word: Word, line: &[u8], at: usize, buffer: &mut [u8], out: &mut [u8]) -> usize {
-    let mut record = [0u32; 347];
+    let mut record = [0u32; place::NUMBERS];
     let t = crate::fields::numbers(word, line, at, &mut record);
     let Taken::Next(at, _) = t else {
         return crate::show::bad(out);
@@ -136,7 +136,7 @@ pub fn read(line: &[u8], at: usize, buffer: &mut [u8], out: &mut [u8]) -> usize 
     if buffer.len() < size {
         return crate::show::bad(out);
     }
-    let mut record = [0u32; 347];
+    let mut record = [0u32; place::NUMBERS];
     let mut answer = [0u32; 4];
     friscurella_read_sequence_header(&buffer[0..size], &mut record, &mut answer);
     crate::show::record(out, &answer, &record)

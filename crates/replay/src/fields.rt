@@ -142,7 +142,7 @@ fn sequence(line: &[u8], t: Taken, record: &mut [u32]) -> Taken {
     let t = points(line, t, record);
     let t = row(line, t, b"bbnnfnn", record);
     let t = row(line, t, b"fffffffffffnfnbnfff", record);
-    row(line, t, b"ffffnnnfffnff", record)
+    row(line, t, b"ffffnnnfffnfnf", record)
 }
 
 fn segmentation(line: &[u8], t: Taken, record: &mut [u32]) -> Taken {

@@ -2,6 +2,7 @@
 use lines::answer::*;
 use sequence_reader::place;
 ghost use Prim.Native.Nat.{_≤_};
+ghost use Rattle.sequence_reader.specs.Places.{numbers};
 
 pub fn bad(out: &mut [u8]) -> usize {
     text(out, 0, b"bad\n")
@@ -42,8 +43,8 @@ pub fn written(out: &mut [u8], answer: &[u32; 4], buffer: &[u8]) -> usize {
     byte(out, at, b'\n')
 }
 
-fn row(out: &mut [u8], at: usize, record: &[u32; 347], from: usize, to: usize) -> usize
-    requires { ⌜ to ≤ 347 ⌝ }
+fn row(out: &mut [u8], at: usize, record: &[u32; place::NUMBERS], from: usize, to: usize) -> usize
+    requires { ⌜ to ≤ numbers ⌝ }
 {
     let mut end = at;
     let mut i = from;
@@ -55,7 +56,7 @@ fn row(out: &mut [u8], at: usize, record: &[u32; 347], from: usize, to: usize) -
 }
 
 // A record that was read, as the numbers of `seq` with 32 operating points; or the refusal.
-pub fn record(out: &mut [u8], answer: &[u32; 4], record: &[u32; 347]) -> usize {
+pub fn record(out: &mut [u8], answer: &[u32; 4], record: &[u32; place::NUMBERS]) -> usize {
     if answer[0] != 0 {
         let at = numbers(out, answer);
         return byte(out, at, b'\n');
@@ -63,7 +64,7 @@ pub fn record(out: &mut [u8], answer: &[u32; 4], record: &[u32; 347]) -> usize {
     let at = byte(out, 0, b'0');
     let at = row(out, at, record, 0, place::OPERATING_POINTS);
     let at = more(out, at, 32);
-    let at = row(out, at, record, place::OPERATING_POINTS, 347);
+    let at = row(out, at, record, place::OPERATING_POINTS, place::NUMBERS);
     byte(out, at, b'\n')
 }
 

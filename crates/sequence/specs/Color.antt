@@ -1,9 +1,9 @@
 -- 5.5.2 color_config.
-use mathlib.Core.Bool.{Bool, true, false, _&&_, not}
+use mathlib.Core.Bool.{Bool, true, false, cond, _&&_, not}
 use Prim.Native.Nat.{ℕ}
 use lib.Dec.{eqb}
 use Rattle.bits.specs.Codec.{Codec, flag, inferred, inferredFlag, choose, via, _▷_}
-use Rattle.bits.specs.Elements.{twelve-bit, mono-chrome, color-primaries, transfer-characteristics, matrix-coefficients, color-range, subsampling-x, subsampling-y, chroma-sample-position, separate-uv-delta-q}
+use Rattle.bits.specs.Elements.{twelve-bit, mono-chrome, color-primaries, transfer-characteristics, matrix-coefficients, color-range, subsampling-x, subsampling-y, chroma-sample-position, separate-uv-delta-q, num-planes}
 use Rattle.sequence.specs.declared.record.ColorConfig.{ColorConfig}
 use Rattle.sequence.specs.declared.group.ColorDescription.{ColorDescription}
 use Rattle.sequence.specs.declared.group.Sampling.{Sampling}
@@ -63,10 +63,15 @@ other-planes profile twelve = via planes-out planes-in (
 unfoldable pub planes : ℕ → Bool → Bool → Bool → Codec Planes
 planes profile twelve mono is-srgb = choose mono mono-planes (choose is-srgb srgb-planes (other-planes profile twelve))
 
-unfoldable pub color-rest : ℕ → Bool → Bool → Codec (ColorDescription × Planes)
+-- NumPlanes
+abbrev pub plane-count : Bool → ℕ
+plane-count mono = cond mono 1 3
+
+unfoldable pub color-rest : ℕ → Bool → Bool → Codec (ColorDescription × (Planes × ℕ))
 color-rest profile twelve mono =
     color-description ▷ λ description.
-    planes profile twelve mono (srgb description)
+    planes profile twelve mono (srgb description) ▷ λ _.
+    inferred num-planes 0 (plane-count mono)
 
 unfoldable pub color-config : ℕ → Codec ColorConfig
 color-config profile = via color-config-out color-config-in (

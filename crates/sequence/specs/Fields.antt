@@ -323,13 +323,13 @@ abbrev pub planes-of : ColorConfig → Planes
 planes-of color = record { «color_range» = color .«color_range»; sampling = sampling-of color; «separate_uv_delta_q» = color .«separate_uv_delta_q» }
 
 abbrev pub ColorTable : Type 0
-ColorTable = Bool × (Bool × (Bool × (ColorDescription × Planes)))
+ColorTable = Bool × (Bool × (Bool × (ColorDescription × (Planes × ℕ))))
 
 abbrev pub color-config-out : ColorConfig → ColorTable
-color-config-out color = (color .«high_bitdepth», (color .«twelve_bit», (color .«mono_chrome», (color-description-of color, planes-of color))))
+color-config-out color = (color .«high_bitdepth», (color .«twelve_bit», (color .«mono_chrome», (color-description-of color, (planes-of color, color .«num_planes»)))))
 
 abbrev pub color-config-in : ColorTable → ColorConfig
-color-config-in = λ (high, (twelve, (mono, (description, planes)))). record {
+color-config-in = λ (high, (twelve, (mono, (description, (planes, count))))). record {
   «high_bitdepth» = high;
   «twelve_bit» = twelve;
   «mono_chrome» = mono;
@@ -342,6 +342,7 @@ color-config-in = λ (high, (twelve, (mono, (description, planes)))). record {
   «subsampling_y» = planes .sampling .«subsampling_y»;
   «chroma_sample_position» = planes .sampling .«chroma_sample_position»;
   «separate_uv_delta_q» = planes .«separate_uv_delta_q»;
+  «num_planes» = count;
 }
 
 -- The whole of 5.5.1, and the record: an OBU header and that.

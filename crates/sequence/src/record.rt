@@ -1,5 +1,7 @@
 // The sequence header's record (5.5), with the names and structs of the Rust.
 use obu::header::ObuHeader;
+ghost use mathlib.Core.Path.{_≡_};
+ghost use Rattle.sequence.specs.Color.{plane-count};
 
 // 5.5.3
 pub struct TimingInfo {
@@ -57,6 +59,14 @@ pub struct ColorConfig {
     pub subsampling_y: bool,
     pub chroma_sample_position: u32,
     pub separate_uv_delta_q: bool,
+    pub num_planes: u32,
+}
+
+// NumPlanes.
+pub fn plane_count(mono_chrome: bool) -> u32
+    ensures { λ r. ⌜ r ≡ plane-count «mono_chrome» ⌝ }
+{
+    if mono_chrome { 1 } else { 3 }
 }
 
 // 5.5.1

@@ -1,6 +1,6 @@
 // 5.5.2 color_config, written.
 use crate::optional::*;
-use crate::record::ColorConfig;
+use crate::record::*;
 use bits::answer::*;
 use bits::element;
 use writer::*;
@@ -8,10 +8,11 @@ ghost use mathlib.Core.Path.{_≡_};
 ghost use mathlib.Core.Bool.{_&&_, false};
 ghost use lib.Dec.{eqb};
 ghost use Rattle.bits.specs.Walk.{Walked};
-ghost use Rattle.bits.specs.Elements.{twelve-bit, subsampling-y, chroma-sample-position};
+ghost use Rattle.bits.specs.Codec.{inferred};
+ghost use Rattle.bits.specs.Elements.{twelve-bit, subsampling-y, chroma-sample-position, num-planes};
 ghost use Rattle.sequence.specs.Fields.{color-description-of, sampling-of, planes-of};
 ghost use Rattle.sequence.specs.Optional.{f-if, flag-if};
-ghost use Rattle.sequence.specs.Color.{color-values, color-description, srgb, sampling, fixed-sampling, mono-planes, srgb-planes, other-planes, planes, color-rest, color-config};
+ghost use Rattle.sequence.specs.Color.{color-values, color-description, srgb, sampling, fixed-sampling, mono-planes, srgb-planes, other-planes, planes, color-rest, plane-count, color-config};
 
 fn color_values(out: &mut [u8], c: Cursor, present: bool, color: ColorConfig) -> Step
     ensures { λ s. ⌜ Walked (color-values present .enc (color .«color_primaries», (color .«transfer_characteristics», color .«matrix_coefficients»))) c (now (out .entry)) s (now (out .exit)) ⌝ }
@@ -156,14 +157,25 @@ fn planes(out: &mut [u8], c: Cursor, profile: u32, color: ColorConfig) -> Step
     other_planes(out, c, profile, color.twelve_bit, color)
 }
 
+fn num_planes(out: &mut [u8], c: Cursor, mono: bool, v: u32) -> Step
+    ensures { λ s. ⌜ Walked (inferred num-planes 0 (plane-count mono) .enc v) c (now (out .entry)) s (now (out .exit)) ⌝ }
+{
+    let count = plane_count(mono);
+    demand(out, c, v == count, element::NUM_PLANES, 0)
+}
+
 fn color_rest(out: &mut [u8], c: Cursor, profile: u32, color: ColorConfig) -> Step
-    ensures { λ s. ⌜ Walked (color-rest profile (color .«twelve_bit») (color .«mono_chrome») .enc (color-description-of color, planes-of color)) c (now (out .entry)) s (now (out .exit)) ⌝ }
+    ensures { λ s. ⌜ Walked (color-rest profile (color .«twelve_bit») (color .«mono_chrome») .enc (color-description-of color, (planes-of color, color .«num_planes»))) c (now (out .entry)) s (now (out .exit)) ⌝ }
 {
     let s = color_description(out, c, color);
     let Step::Next(c) = s else {
         return s;
     };
-    planes(out, c, profile, color)
+    let s = planes(out, c, profile, color);
+    let Step::Next(c) = s else {
+        return s;
+    };
+    num_planes(out, c, color.mono_chrome, color.num_planes)
 }
 
 fn twelve_bit(out: &mut [u8], c: Cursor, profile: u32, high: bool, v: bool) -> Step

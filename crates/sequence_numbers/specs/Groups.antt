@@ -70,4 +70,5 @@ color-of xs = record {
   «subsampling_y» = flag-at xs (color-config + 9);
   «chroma_sample_position» = at xs (color-config + 10);
   «separate_uv_delta_q» = flag-at xs (color-config + 11);
+  «num_planes» = at xs (color-config + 12);
 }

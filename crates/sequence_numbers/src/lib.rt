@@ -14,7 +14,7 @@ ghost use Rattle.obu.specs.Writer.{Writes};
 ghost use Rattle.sequence.specs.Sequence.{sequence-header};
 ghost use Rattle.sequence_reader.specs.Layouts.{header-of, record-of};
 
-pub fn write_sequence_numbers(record: &[u32; 347], out: &mut [u8]) -> Answer
+pub fn write_sequence_numbers(record: &[u32; place::NUMBERS], out: &mut [u8]) -> Answer
     ensures { λ r. ⌜ Writes (sequence-header .enc (record-of (now («record» .entry)))) (now (out .entry)) r (now (out .exit)) ⌝ }
 {
     let h = sequence_header(record);

@@ -8,7 +8,7 @@ ghost use Rattle.numbers.specs.Numbers.{at, each};
 ghost use Rattle.sequence_numbers.specs.Groups.{point-of, used};
 
 // Point i.
-fn operating_point(n: &[u32; 347], i: usize) -> OperatingPoint
+fn operating_point(n: &[u32; place::NUMBERS], i: usize) -> OperatingPoint
     requires { ⌜ i < 32 ⌝ }
     ensures { λ r. ⌜ r ≡ point-of (now (n .entry)) i ⌝ }
 {
@@ -36,7 +36,7 @@ pub fn used(count: u32) -> usize
 }
 
 // The points that are used; the others stay zeros.
-pub fn operating_points(n: &[u32; 347]) -> [OperatingPoint; 32]
+pub fn operating_points(n: &[u32; place::NUMBERS]) -> [OperatingPoint; 32]
     ensures { λ r. ⌜ take (used (at (now (n .entry)) 19)) r ≡ each (used (at (now (n .entry)) 19)) (point-of (now (n .entry))) ⌝ }
 {
     let mut points = [NO_POINT; 32];

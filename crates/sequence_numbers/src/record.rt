@@ -9,7 +9,7 @@ ghost use Rattle.sequence.specs.Sequence.{sequence-header};
 ghost use Rattle.sequence_reader.specs.Layouts.{record-of};
 ghost use Rattle.sequence_numbers.specs.Groups.{timing-of, model-of, color-of};
 
-fn timing_info(n: &[u32; 347]) -> TimingInfo
+fn timing_info(n: &[u32; place::NUMBERS]) -> TimingInfo
     ensures { λ r. ⌜ r ≡ timing-of (now (n .entry)) ⌝ }
 {
     TimingInfo {
@@ -20,7 +20,7 @@ fn timing_info(n: &[u32; 347]) -> TimingInfo
     }
 }
 
-fn decoder_model_info(n: &[u32; 347]) -> DecoderModelInfo
+fn decoder_model_info(n: &[u32; place::NUMBERS]) -> DecoderModelInfo
     ensures { λ r. ⌜ r ≡ model-of (now (n .entry)) ⌝ }
 {
     DecoderModelInfo {
@@ -31,7 +31,7 @@ fn decoder_model_info(n: &[u32; 347]) -> DecoderModelInfo
     }
 }
 
-fn color_config(n: &[u32; 347]) -> ColorConfig
+fn color_config(n: &[u32; place::NUMBERS]) -> ColorConfig
     ensures { λ r. ⌜ r ≡ color-of (now (n .entry)) ⌝ }
 {
     ColorConfig {
@@ -47,11 +47,12 @@ fn color_config(n: &[u32; 347]) -> ColorConfig
         subsampling_y: n[place::SUBSAMPLING_Y] != 0,
         chroma_sample_position: n[place::CHROMA_SAMPLE_POSITION],
         separate_uv_delta_q: n[place::SEPARATE_UV_DELTA_Q] != 0,
+        num_planes: n[place::NUM_PLANES],
     }
 }
 
 // A record that is walked as the one that the numbers give.
-pub fn sequence_header(n: &[u32; 347]) -> SequenceHeaderObu
+pub fn sequence_header(n: &[u32; place::NUMBERS]) -> SequenceHeaderObu
     ensures { λ r. ⌜ run (sequence-header .enc r) ≡ run (sequence-header .enc (record-of (now (n .entry)))) ⌝ }
 {
     let obu_header = obu_header(

@@ -33,6 +33,7 @@ use Rattle.sequence.proofs.Demand.{struct-read}
 use Rattle.sequence_reader.specs.declared.read.Outcome.{Outcome}
 use Rattle.sequence_reader.specs.declared.read.Outcome.the-variants.{Done, Refused}
 use Rattle.sequence_reader.specs.Layouts as row
+use Rattle.sequence_reader.specs.Places.{numbers}
 use Rattle.sequence_reader.specs.Reader.{answer, answerFor, Answers, Holds, holds}
 
 -- the record is made of the header and the table's value
@@ -99,12 +100,12 @@ module _ {xs ns ms : List ℕ} {o : Outcome} where
       go (stop z) k = let w : _≡_ {A = Got (List ℕ)} (stop z) (stop y) = rw (k, e) at r in let u : z ≡ y = cc in k ∙ ap stop u
 
 -- the public call: the numbers are filled from zeros on, and copied
-module _ {xs : List ℕ} (ns : List ℕ) {ms : List ℕ} {o : Outcome} (i : Holds xs (replicate 347 0) o ms) where
+module _ {xs : List ℕ} (ns : List ℕ) {ms : List ℕ} {o : Outcome} (i : Holds xs (replicate numbers 0) o ms) where
   pub answer-done : o ≡ Done → Answers xs ns o ms
   unfolding answerFor row.numbers-of
   answer-done e = go (was-held i e)
     where
-      go : Held xs (replicate 347 0) ms → Answers xs ns o ms
+      go : Held xs (replicate numbers 0) ms → Answers xs ns o ms
       go h = rw (h .reads, h .is) (ap (λ (x : Outcome). answer x (row.numbers-of (h .it))) e)
 
   pub answer-not : {y : Refusal} → o ≡ Refused y → Answers xs ns o ns

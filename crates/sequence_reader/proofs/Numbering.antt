@@ -19,6 +19,7 @@ use Rattle.sequence_reader.specs.declared.read.Outcome.{Outcome}
 use Rattle.sequence_reader.specs.declared.read.Outcome.the-variants.{Done}
 use Rattle.sequence_reader.specs.Layouts as row
 use Rattle.sequence_reader.specs.Layouts.{numbers-of, record-of}
+use Rattle.sequence_reader.specs.Places.{numbers}
 use Rattle.sequence_reader.specs.Reader.{Answers}
 use Rattle.sequence_reader.proofs.Demand.{accepted}
 use Rattle.sequence_reader.proofs.Setting.{record-sets}
@@ -74,7 +75,7 @@ color : Stands Any row.color-config
 color =
     any-struct fields.color-config-out fields.color-config-in (λ _. refl)
     (any-both flag-stands (any-both flag-stands (any-both flag-stands (any-both (any-struct fields.color-description-out fields.color-description-in (λ _. refl) (any-both flag-stands (any-both word-stands (any-both word-stands word-stands))))
-    (any-struct fields.planes-out fields.planes-in (λ _. refl) (any-both flag-stands (any-both (any-struct fields.sampling-out fields.sampling-in (λ _. refl) (any-both flag-stands (any-both flag-stands word-stands))) flag-stands)))))))
+    (any-both (any-struct fields.planes-out fields.planes-in (λ _. refl) (any-both flag-stands (any-both (any-struct fields.sampling-out fields.sampling-in (λ _. refl) (any-both flag-stands (any-both flag-stands word-stands))) flag-stands))) word-stands)))))
 
 tools-and-color : Stands Any row.tools-and-color
 tools-and-color =
@@ -103,7 +104,7 @@ unfolding record-of numbers-of
 record-back h u = go whole
   where
     go : Stands (λ (k : SequenceHeaderObu). Used (fields.points-of k)) row.header → record-of (numbers-of h) ≡ h
-    go (stands W) = W 0 .back h u (replicate 347 0) (rw (length-replicate {A = ℕ} 347 0) (omega arith))
+    go (stands W) = W 0 .back h u (replicate numbers 0) (rw (length-replicate {A = ℕ} numbers 0) (omega arith))
 
 -- what the public reader leaves are the numbers of the record that is read, which they are
 pub record-is : (xs ns : List ℕ) {o : Outcome} {ms : List ℕ} → Answers xs ns o ms → o ≡ Done → (rest : Bits) × (read sequence-header xs ≡ got (record-of ms) rest)

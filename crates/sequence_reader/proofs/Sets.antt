@@ -13,7 +13,7 @@ use Rattle.sequence.specs.declared.record.SequenceHeaderObu.{SequenceHeaderObu}
 use Rattle.sequence.specs.Fields.{operating-parameters-info-of, color-description-of}
 use Rattle.sequence.specs.Timing.{no-timing-info, no-decoder-model-info}
 use Rattle.sequence.specs.Points.{no-operating-parameters-info, no-point}
-use Rattle.sequence.specs.Color.{srgb}
+use Rattle.sequence.specs.Color.{srgb, plane-count}
 
 -- 5.3.2, 5.3.3
 pub record HeaderSets (o : ObuHeader) : Type 0 where
@@ -106,6 +106,7 @@ module _ (profile : ℕ) (k : ColorConfig) where
     pub profile-2 : Other → profile ≡ 2 → k .«twelve_bit» ≡ false → (k .«subsampling_x» ≡ true) × (k .«subsampling_y» ≡ false)
     pub profile-2-subsampling-y : Other → profile ≡ 2 → k .«subsampling_x» ≡ false → k .«subsampling_y» ≡ false
     pub chroma-sample-position : k .«subsampling_x» && k .«subsampling_y» ≡ false → k .«chroma_sample_position» ≡ 0
+    pub num-planes : k .«num_planes» ≡ plane-count (k .«mono_chrome»)
 
 -- the whole record
 pub record Sets (h : SequenceHeaderObu) : Type 0 where

@@ -22,7 +22,7 @@ use Rattle.fill.proofs.Filling.{Laid, was-it, wide, onward-at, final-at, halted
 use Rattle.sequence.specs.Sequence.{profile}
 use Rattle.sequence.specs.declared.group.Planes.{Planes}
 use Rattle.sequence.specs.Optional.{f-if, flag-if}
-use Rattle.sequence.specs.Color.{planes}
+use Rattle.sequence_reader.specs.Tails.{counted-planes}
 
 -- a field whose width was read
 module _ (n e i : ℕ) {xs : List ℕ} {p : Cursor} {u : Step} {v w : ℕ} (r : Fills whole (f (min n 32) 0 0 .dec) xs p u w v) (h : n ≤ 32) where
@@ -65,8 +65,8 @@ module _ (a b : Bool) {M : Type 0} {xs : List ℕ} {c : Cursor} {s : Step} {m n 
   pub by-field : (k x : ℕ) {l : Layout M ℕ} → a ≡ b → Fills l (f-if a k 0 0 x .dec) xs c s m n → Fills l (f-if b k 0 0 x .dec) xs c s m n
   by-field k x h i = rw h at i
 
-  pub final-planes : (profile : ℕ) (twelve mono : Bool) {l : Layout M Planes} → a ≡ b → Fills l (planes profile twelve mono a .dec) xs c s m n → Laid l (planes profile twelve mono b) xs c s m n
-  final-planes profile twelve mono h i = final (planes profile twelve mono b) (rw h at i) refl
+  pub final-planes : (profile : ℕ) (twelve mono : Bool) {l : Layout M (Planes × ℕ)} → a ≡ b → Fills l (counted-planes profile twelve mono a .dec) xs c s m n → Laid l (counted-planes profile twelve mono b) xs c s m n
+  final-planes profile twelve mono h i = final (counted-planes profile twelve mono b) (rw h at i) refl
 
 -- three numbers in variables, by which the rest goes, and which are put into the array then
 module _ {d : Bits → Got (ℕ × (ℕ × ℕ))} {xs : List ℕ} {p q : Cursor} {u : Step} {w v : ℕ × (ℕ × ℕ)} where

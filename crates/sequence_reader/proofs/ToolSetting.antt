@@ -163,7 +163,8 @@ color-sets profile {k} s =
     let t = second _ _ (struct _ _ _ (λ _. refl) s) in
     let m = second _ _ t in
     let d = second _ _ (struct _ _ _ (λ _. refl) (first _ _ (second _ _ m))) in
-    let p = second _ _ (second _ _ m) in
+    let n = second _ _ (second _ _ m) in
+    let p = first _ _ n in
     let twelve : eqb profile 2 && k .«high_bitdepth» ≡ false → k .«twelve_bit» ≡ false = uncoded-flag _ _ _ (first _ _ t) in
     let one = when-mono _ _ _ _ p in
     let rgb = when-srgb _ _ _ _ p in
@@ -186,4 +187,5 @@ color-sets profile {k} s =
       profile-2 = λ q e w. rw e at (other-both profile (k .«twelve_bit») (other q) w);
       profile-2-subsampling-y = λ q e w. rw e at (other-y profile (k .«twelve_bit») (other q) (and-false (k .«twelve_bit») w));
       chroma-sample-position = position-set _ _ _ _ p;
+      num-planes = is-inferred _ _ (second _ _ n);
     }

@@ -1,4 +1,4 @@
--- The sequence header's record as 347 numbers: its fields one behind the other, in the tables' order, with 32 operating points.
+-- The sequence header's record as numbers: its fields one behind the other, in the tables' order, with 32 operating points.
 use mathlib.Core.List.{List}
 use Prim.Native.Nat.{ℕ, _+_, _*_}
 use lib.ListN.{replicate}
@@ -112,7 +112,7 @@ abbrev pub planes : Row Planes
 planes = struct fields.planes-out fields.planes-in (flag & sampling & flag)
 
 abbrev pub color-config : Row ColorConfig
-color-config = struct fields.color-config-out fields.color-config-in (flag & flag & flag & color-description & planes)
+color-config = struct fields.color-config-out fields.color-config-in (flag & flag & flag & color-description & planes & word)
 
 -- the whole
 abbrev pub general : Row fields.GeneralTable
@@ -133,9 +133,9 @@ sequence = word & flag & flag & body
 abbrev pub header : Row SequenceHeaderObu
 header = struct fields.record-out fields.record-in (obu-header & sequence)
 
--- the record's numbers, and the record that 347 numbers are; the OBU header that five are
+-- the record's numbers, and the record that so many numbers are; the OBU header that five are
 unfoldable pub numbers-of : SequenceHeaderObu → List ℕ
-numbers-of h = header .from 0 .put h (replicate 347 0)
+numbers-of h = header .from 0 .put h (replicate (header .size) 0)
 
 unfoldable pub record-of : List ℕ → SequenceHeaderObu
 record-of ns = header .from 0 .get ns

@@ -1,4 +1,4 @@
--- Where each group of the record begins among its 347 numbers. Only contracts of functions inside cite this.
+-- Where each group of the record begins among its numbers. Only contracts of functions inside cite this.
 use Prim.Native.Nat.{ℕ}
 
 abbrev pub sequence : ℕ
@@ -67,5 +67,12 @@ planes = 341
 abbrev pub sampling : ℕ
 sampling = 342
 
+abbrev pub num-planes : ℕ
+num-planes = 346
+
 abbrev pub film-grain : ℕ
-film-grain = 346
+film-grain = 347
+
+-- how many there are
+abbrev pub numbers : ℕ
+numbers = 348

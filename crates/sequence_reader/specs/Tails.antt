@@ -2,18 +2,20 @@
 use mathlib.Core.Bool.{Bool, true, false, cond}
 use mathlib.Core.List.{List}
 use Prim.Native.Nat.{ℕ, _+_}
-use Rattle.bits.specs.Codec.{Codec, f, array, _▷_}
-use Rattle.bits.specs.Elements.{decoder-model-info-present-flag, buffer-removal-time-length-minus-1, frame-presentation-time-length-minus-1}
+use Rattle.bits.specs.Codec.{Codec, f, inferred, array, _▷_}
+use Rattle.bits.specs.Elements.{decoder-model-info-present-flag, buffer-removal-time-length-minus-1, frame-presentation-time-length-minus-1, num-planes}
 use Rattle.fill.specs.Fills.{Layout, whole, of, _∥_}
 use Rattle.fill.specs.Rows.{Row, word, _&_}
 use Rattle.sequence.specs.declared.record.DecoderModelInfo.{DecoderModelInfo}
 use Rattle.sequence.specs.declared.record.OperatingPoint.{OperatingPoint}
 use Rattle.sequence.specs.declared.group.Choice.{Choice}
 use Rattle.sequence.specs.declared.group.Points.{Points}
+use Rattle.sequence.specs.declared.group.Planes.{Planes}
 use Rattle.sequence.specs.Fields.{choice-out, choice-in}
 use Rattle.sequence.specs.Optional.{flag-if}
 use Rattle.sequence.specs.Timing.{decoder-model-info, decoder-model-info-if}
 use Rattle.sequence.specs.Points.{operating-point, reduced-point, no-point, points}
+use Rattle.sequence.specs.Color.{plane-count, planes}
 
 -- a point of either header, and the points that are coded, the first `count` of 32
 unfoldable pub any-point : Bool → Bool → ℕ → Bool → ℕ → Codec OperatingPoint
@@ -43,3 +45,7 @@ model-rest-row = word & word & word
 
 abbrev pub choice-apart : Layout (Bool × ℕ) Choice
 choice-apart = of choice-out choice-in (whole ∥ whole)
+
+-- the planes, and how many they are
+unfoldable pub counted-planes : ℕ → Bool → Bool → Bool → Codec (Planes × ℕ)
+counted-planes profile twelve mono is-srgb = planes profile twelve mono is-srgb ▷ λ _. inferred num-planes 0 (plane-count mono)

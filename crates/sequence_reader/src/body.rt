@@ -25,7 +25,7 @@ fn profile(s: &[u8], c: Cursor, v: &mut u32) -> Step
     Step::Refused(Refusal::Inconsistent(SEQ_PROFILE, 0))
 }
 
-fn color_and_grain(s: &[u8], c: Cursor, profile: u32, n: &mut [u32; 347]) -> Step
+fn color_and_grain(s: &[u8], c: Cursor, profile: u32, n: &mut [u32; place::NUMBERS]) -> Step
     ensures { λ r. ⌜ Fills (row.color-and-grain .from place.color-config) (color-and-grain profile .dec) (now (s .entry)) c r (now (n .entry)) (now (n .exit)) ⌝ }
 {
     let t = color_config(s, c, profile, n);
@@ -35,7 +35,13 @@ fn color_and_grain(s: &[u8], c: Cursor, profile: u32, n: &mut [u32; 347]) -> Ste
     mark(s, c, &mut n[place::FILM_GRAIN_PARAMS_PRESENT])
 }
 
-fn tools_and_color(s: &[u8], c: Cursor, profile: u32, reduced: bool, n: &mut [u32; 347]) -> Step
+fn tools_and_color(
+    s: &[u8],
+    c: Cursor,
+    profile: u32,
+    reduced: bool,
+    n: &mut [u32; place::NUMBERS],
+) -> Step
     ensures { λ r. ⌜ Fills (row.tools-and-color .from place.tools) (tools-and-color profile reduced .dec) (now (s .entry)) c r (now (n .entry)) (now (n .exit)) ⌝ }
 {
     let t = block_tools(s, c, n);
@@ -53,7 +59,7 @@ fn tools_and_color(s: &[u8], c: Cursor, profile: u32, reduced: bool, n: &mut [u3
     color_and_grain(s, c, profile, n)
 }
 
-fn body(s: &[u8], c: Cursor, profile: u32, reduced: bool, n: &mut [u32; 347]) -> Step
+fn body(s: &[u8], c: Cursor, profile: u32, reduced: bool, n: &mut [u32; place::NUMBERS]) -> Step
     ensures { λ r. ⌜ Fills (row.body .from place.general) (body profile reduced .dec) (now (s .entry)) c r (now (n .entry)) (now (n .exit)) ⌝ }
 {
     let t = general(s, c, reduced, n);
@@ -71,7 +77,7 @@ fn body(s: &[u8], c: Cursor, profile: u32, reduced: bool, n: &mut [u32; 347]) ->
     tools_and_color(s, c, profile, reduced, n)
 }
 
-pub fn sequence_header_obu(s: &[u8], c: Cursor, n: &mut [u32; 347]) -> Step
+pub fn sequence_header_obu(s: &[u8], c: Cursor, n: &mut [u32; place::NUMBERS]) -> Step
     ensures { λ r. ⌜ Fills (row.sequence .from place.sequence) (sequence-header-obu .dec) (now (s .entry)) c r (now (n .entry)) (now (n .exit)) ⌝ }
 {
     let mut seq_profile = 0;

@@ -3,14 +3,17 @@ use crate::optional::*;
 use crate::place;
 use bits::answer::*;
 use fill::*;
+use sequence::record::plane_count;
 ghost use mathlib.Core.Path.{_≡_};
 ghost use mathlib.Core.Bool.{_&&_, false};
 ghost use lib.Dec.{eqb};
 ghost use Rattle.fill.specs.Fills.{Fills, whole, _▸_, _∥_};
+ghost use Rattle.fill.specs.Rows.{word};
 ghost use Rattle.sequence.specs.Optional.{f-if, flag-if};
 ghost use Rattle.sequence.specs.Color.{color-values, sampling, mono-planes, srgb-planes, other-planes, planes, color-rest, color-config};
 ghost use Rattle.sequence_reader.specs.Layouts as row;
 ghost use Rattle.sequence_reader.specs.Places as place;
+ghost use Rattle.sequence_reader.specs.Tails.{counted-planes};
 
 fn color_values(
     s: &[u8],
@@ -53,7 +56,7 @@ fn chroma_sample_position(s: &[u8], c: Cursor, x: bool, y: bool, v: &mut u32) ->
     f_if(s, c, coded, 2, 0, v)
 }
 
-fn sampling(s: &[u8], c: Cursor, profile: u32, twelve: bool, n: &mut [u32; 347]) -> Step
+fn sampling(s: &[u8], c: Cursor, profile: u32, twelve: bool, n: &mut [u32; place::NUMBERS]) -> Step
     ensures { λ r. ⌜ Fills (row.sampling .from place.sampling) (sampling profile twelve .dec) (now (s .entry)) c r (now (n .entry)) (now (n .exit)) ⌝ }
 {
     let mut x = false;
@@ -71,7 +74,7 @@ fn sampling(s: &[u8], c: Cursor, profile: u32, twelve: bool, n: &mut [u32; 347])
     chroma_sample_position(s, c, x, y, &mut n[place::CHROMA_SAMPLE_POSITION])
 }
 
-fn mono_planes(s: &[u8], c: Cursor, n: &mut [u32; 347]) -> Step
+fn mono_planes(s: &[u8], c: Cursor, n: &mut [u32; place::NUMBERS]) -> Step
     ensures { λ r. ⌜ Fills (row.planes .from place.planes) (mono-planes .dec) (now (s .entry)) c r (now (n .entry)) (now (n .exit)) ⌝ }
 {
     let t = mark(s, c, &mut n[place::COLOR_RANGE]);
@@ -85,7 +88,7 @@ fn mono_planes(s: &[u8], c: Cursor, n: &mut [u32; 347]) -> Step
     Step::Next(c)
 }
 
-fn srgb_planes(s: &[u8], c: Cursor, n: &mut [u32; 347]) -> Step
+fn srgb_planes(s: &[u8], c: Cursor, n: &mut [u32; place::NUMBERS]) -> Step
     ensures { λ r. ⌜ Fills (row.planes .from place.planes) (srgb-planes .dec) (now (s .entry)) c r (now (n .entry)) (now (n .exit)) ⌝ }
 {
     n[place::COLOR_RANGE] = 1;
@@ -95,7 +98,13 @@ fn srgb_planes(s: &[u8], c: Cursor, n: &mut [u32; 347]) -> Step
     mark(s, c, &mut n[place::SEPARATE_UV_DELTA_Q])
 }
 
-fn other_planes(s: &[u8], c: Cursor, profile: u32, twelve: bool, n: &mut [u32; 347]) -> Step
+fn other_planes(
+    s: &[u8],
+    c: Cursor,
+    profile: u32,
+    twelve: bool,
+    n: &mut [u32; place::NUMBERS],
+) -> Step
     ensures { λ r. ⌜ Fills (row.planes .from place.planes) (other-planes profile twelve .dec) (now (s .entry)) c r (now (n .entry)) (now (n .exit)) ⌝ }
 {
     let t = mark(s, c, &mut n[place::COLOR_RANGE]);
@@ -116,7 +125,7 @@ fn planes(
     twelve: bool,
     mono: bool,
     srgb: bool,
-    n: &mut [u32; 347],
+    n: &mut [u32; place::NUMBERS],
 ) -> Step
     ensures { λ r. ⌜ Fills (row.planes .from place.planes) (planes profile twelve mono srgb .dec) (now (s .entry)) c r (now (n .entry)) (now (n .exit)) ⌝ }
 {
@@ -129,15 +138,34 @@ fn planes(
     other_planes(s, c, profile, twelve, n)
 }
 
+fn counted_planes(
+    s: &[u8],
+    c: Cursor,
+    profile: u32,
+    twelve: bool,
+    mono: bool,
+    srgb: bool,
+    n: &mut [u32; place::NUMBERS],
+) -> Step
+    ensures { λ r. ⌜ Fills (row.planes .from place.planes ▸ word .from place.num-planes) (counted-planes profile twelve mono srgb .dec) (now (s .entry)) c r (now (n .entry)) (now (n .exit)) ⌝ }
+{
+    let t = planes(s, c, profile, twelve, mono, srgb, n);
+    let Step::Next(c) = t else {
+        return t;
+    };
+    n[place::NUM_PLANES] = plane_count(mono);
+    Step::Next(c)
+}
+
 fn color_rest(
     s: &[u8],
     c: Cursor,
     profile: u32,
     twelve: bool,
     mono: bool,
-    n: &mut [u32; 347],
+    n: &mut [u32; place::NUMBERS],
 ) -> Step
-    ensures { λ r. ⌜ Fills (row.color-description .from place.color-description ▸ row.planes .from place.planes) (color-rest profile twelve mono .dec) (now (s .entry)) c r (now (n .entry)) (now (n .exit)) ⌝ }
+    ensures { λ r. ⌜ Fills (row.color-description .from place.color-description ▸ row.planes .from place.planes ▸ word .from place.num-planes) (color-rest profile twelve mono .dec) (now (s .entry)) c r (now (n .entry)) (now (n .exit)) ⌝ }
 {
     let mut present = false;
     let t = flag(s, c, &mut present);
@@ -156,7 +184,7 @@ fn color_rest(
     n[place::TRANSFER_CHARACTERISTICS] = transfer;
     n[place::MATRIX_COEFFICIENTS] = matrix;
     let is_srgb = srgb(primaries, transfer, matrix);
-    planes(s, c, profile, twelve, mono, is_srgb, n)
+    counted_planes(s, c, profile, twelve, mono, is_srgb, n)
 }
 
 fn twelve_bit(s: &[u8], c: Cursor, profile: u32, high: bool, v: &mut bool) -> Step
@@ -166,7 +194,7 @@ fn twelve_bit(s: &[u8], c: Cursor, profile: u32, high: bool, v: &mut bool) -> St
     flag_if(s, c, coded, false, v)
 }
 
-pub fn color_config(s: &[u8], c: Cursor, profile: u32, n: &mut [u32; 347]) -> Step
+pub fn color_config(s: &[u8], c: Cursor, profile: u32, n: &mut [u32; place::NUMBERS]) -> Step
     ensures { λ r. ⌜ Fills (row.color-config .from place.color-config) (color-config profile .dec) (now (s .entry)) c r (now (n .entry)) (now (n .exit)) ⌝ }
 {
     let mut high = false;

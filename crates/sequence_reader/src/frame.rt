@@ -15,7 +15,7 @@ fn max_frame_size(
     c: Cursor,
     width_bits: u32,
     height_bits: u32,
-    n: &mut [u32; 347],
+    n: &mut [u32; place::NUMBERS],
 ) -> Step
     requires { ⌜ («width_bits» + 1 ≤ 32) × («height_bits» + 1 ≤ 32) ⌝ }
     ensures { λ r. ⌜ Fills ((word & word) .from place.max-frame-size) (max-frame-size «width_bits» «height_bits» .dec) (now (s .entry)) c r (now (n .entry)) (now (n .exit)) ⌝ }
@@ -32,7 +32,7 @@ fn max_frame_size(
     )
 }
 
-pub fn frame_size(s: &[u8], c: Cursor, n: &mut [u32; 347]) -> Step
+pub fn frame_size(s: &[u8], c: Cursor, n: &mut [u32; place::NUMBERS]) -> Step
     ensures { λ r. ⌜ Fills (row.frame-size .from place.frame-size) (frame-size .dec) (now (s .entry)) c r (now (n .entry)) (now (n .exit)) ⌝ }
 {
     let mut width_bits = 0;
@@ -50,7 +50,7 @@ pub fn frame_size(s: &[u8], c: Cursor, n: &mut [u32; 347]) -> Step
     max_frame_size(s, c, width_bits, height_bits, n)
 }
 
-pub fn frame_ids(s: &[u8], c: Cursor, reduced: bool, n: &mut [u32; 347]) -> Step
+pub fn frame_ids(s: &[u8], c: Cursor, reduced: bool, n: &mut [u32; place::NUMBERS]) -> Step
     ensures { λ r. ⌜ Fills (row.frame-ids .from place.frame-ids) (frame-ids reduced .dec) (now (s .entry)) c r (now (n .entry)) (now (n .exit)) ⌝ }
 {
     let mut present = false;

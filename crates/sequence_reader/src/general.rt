@@ -23,7 +23,7 @@ fn ticks_per_picture(s: &[u8], c: Cursor, equal: bool, v: &mut u32) -> Step
     Step::Next(c)
 }
 
-fn timing_info(s: &[u8], c: Cursor, n: &mut [u32; 347]) -> Step
+fn timing_info(s: &[u8], c: Cursor, n: &mut [u32; place::NUMBERS]) -> Step
     ensures { λ r. ⌜ Fills (row.timing-info .from place.timing-info) (timing-info .dec) (now (s .entry)) c r (now (n .entry)) (now (n .exit)) ⌝ }
 {
     let t = f(s, c, 32, &mut n[place::NUM_UNITS_IN_DISPLAY_TICK]);
@@ -43,7 +43,7 @@ fn timing_info(s: &[u8], c: Cursor, n: &mut [u32; 347]) -> Step
     ticks_per_picture(s, c, equal, &mut n[place::NUM_TICKS_PER_PICTURE_MINUS_1])
 }
 
-fn timing_info_if(s: &[u8], c: Cursor, present: bool, n: &mut [u32; 347]) -> Step
+fn timing_info_if(s: &[u8], c: Cursor, present: bool, n: &mut [u32; place::NUMBERS]) -> Step
     ensures { λ r. ⌜ Fills (row.timing-info .from place.timing-info) (timing-info-if present .dec) (now (s .entry)) c r (now (n .entry)) (now (n .exit)) ⌝ }
 {
     if present {
@@ -57,7 +57,7 @@ fn timing_info_if(s: &[u8], c: Cursor, present: bool, n: &mut [u32; 347]) -> Ste
 }
 
 // The decoder model behind its first field.
-fn model_rest(s: &[u8], c: Cursor, n: &mut [u32; 347]) -> Step
+fn model_rest(s: &[u8], c: Cursor, n: &mut [u32; place::NUMBERS]) -> Step
     ensures { λ r. ⌜ Fills (model-rest-row .from place.model-rest) (model-rest .dec) (now (s .entry)) c r (now (n .entry)) (now (n .exit)) ⌝ }
 {
     let t = f(s, c, 32, &mut n[place::NUM_UNITS_IN_DECODING_TICK]);
@@ -77,7 +77,7 @@ fn model_rest(s: &[u8], c: Cursor, n: &mut [u32; 347]) -> Step
 }
 
 // The decoder model, and the points, whose buffer delays are as wide as it says.
-fn with_model(s: &[u8], c: Cursor, n: &mut [u32; 347]) -> Step
+fn with_model(s: &[u8], c: Cursor, n: &mut [u32; place::NUMBERS]) -> Step
     ensures { λ r. ⌜ Fills (row.decoder-model-info .from place.decoder-model-info ▸ row.points .from place.points) (with-model .dec) (now (s .entry)) c r (now (n .entry)) (now (n .exit)) ⌝ }
 {
     let mut length_minus_1 = 0;
@@ -93,7 +93,7 @@ fn with_model(s: &[u8], c: Cursor, n: &mut [u32; 347]) -> Step
     points(s, c, true, length_minus_1 + 1, n)
 }
 
-fn model_points(s: &[u8], c: Cursor, has_model: bool, n: &mut [u32; 347]) -> Step
+fn model_points(s: &[u8], c: Cursor, has_model: bool, n: &mut [u32; place::NUMBERS]) -> Step
     ensures { λ r. ⌜ Fills (row.decoder-model-info .from place.decoder-model-info ▸ row.points .from place.points) (model-points «has_model» .dec) (now (s .entry)) c r (now (n .entry)) (now (n .exit)) ⌝ }
 {
     if has_model {
@@ -107,7 +107,7 @@ fn model_points(s: &[u8], c: Cursor, has_model: bool, n: &mut [u32; 347]) -> Ste
 }
 
 // From decoder_model_info_present_flag on.
-fn model_if(s: &[u8], c: Cursor, timed: bool, n: &mut [u32; 347]) -> Step
+fn model_if(s: &[u8], c: Cursor, timed: bool, n: &mut [u32; place::NUMBERS]) -> Step
     ensures { λ r. ⌜ Fills (flag .from place.model-present ▸ row.decoder-model-info .from place.decoder-model-info ▸ row.points .from place.points) (model-if timed .dec) (now (s .entry)) c r (now (n .entry)) (now (n .exit)) ⌝ }
 {
     let mut has_model = false;
@@ -119,7 +119,7 @@ fn model_if(s: &[u8], c: Cursor, timed: bool, n: &mut [u32; 347]) -> Step
     model_points(s, c, has_model, n)
 }
 
-fn full_general(s: &[u8], c: Cursor, n: &mut [u32; 347]) -> Step
+fn full_general(s: &[u8], c: Cursor, n: &mut [u32; place::NUMBERS]) -> Step
     ensures { λ r. ⌜ Fills (row.general .from place.general) (full-general .dec) (now (s .entry)) c r (now (n .entry)) (now (n .exit)) ⌝ }
 {
     let mut timed = false;
@@ -136,7 +136,7 @@ fn full_general(s: &[u8], c: Cursor, n: &mut [u32; 347]) -> Step
 }
 
 // With the reduced header there is one point, and nothing before it.
-pub fn general(s: &[u8], c: Cursor, reduced: bool, n: &mut [u32; 347]) -> Step
+pub fn general(s: &[u8], c: Cursor, reduced: bool, n: &mut [u32; place::NUMBERS]) -> Step
     ensures { λ r. ⌜ Fills (row.general .from place.general) (general reduced .dec) (now (s .entry)) c r (now (n .entry)) (now (n .exit)) ⌝ }
 {
     if !reduced {

@@ -117,7 +117,12 @@ pub const CHROMA_SAMPLE_POSITION: usize = 344;
 
 pub const SEPARATE_UV_DELTA_Q: usize = 345;
 
-pub const FILM_GRAIN_PARAMS_PRESENT: usize = 346;
+pub const NUM_PLANES: usize = 346;
+
+pub const FILM_GRAIN_PARAMS_PRESENT: usize = 347;
+
+// How many there are.
+pub const NUMBERS: usize = 348;
 
 // Of an operating point: how many numbers it has, and how far behind its first, idc, each stands.
 pub const POINT_NUMBERS: usize = 9;

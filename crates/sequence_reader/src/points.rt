@@ -11,8 +11,14 @@ ghost use Rattle.sequence_reader.specs.Places as place;
 ghost use Rattle.sequence_reader.specs.Tails.{any-point, point-list};
 
 // A width over 32 counts as 32, here and below; the point's numbers begin at `at`.
-fn operating_parameters_info(s: &[u8], c: Cursor, width: u32, at: usize, n: &mut [u32; 347]) -> Step
-    requires { ⌜ at + 9 ≤ 347 ⌝ }
+fn operating_parameters_info(
+    s: &[u8],
+    c: Cursor,
+    width: u32,
+    at: usize,
+    n: &mut [u32; place::NUMBERS],
+) -> Step
+    requires { ⌜ at + 9 ≤ place.numbers ⌝ }
     ensures { λ r. ⌜ Fills (row.operating-parameters-info at) (operating-parameters-info (min width 32) 0 .dec) (now (s .entry)) c r (now (n .entry)) (now (n .exit)) ⌝ }
 {
     let t = f(s, c, width, &mut n[at + place::DECODER_BUFFER_DELAY]);
@@ -32,9 +38,9 @@ fn point_model(
     has_model: bool,
     width: u32,
     at: usize,
-    n: &mut [u32; 347],
+    n: &mut [u32; place::NUMBERS],
 ) -> Step
-    requires { ⌜ at + 9 ≤ 347 ⌝ }
+    requires { ⌜ at + 9 ≤ place.numbers ⌝ }
     ensures { λ r. ⌜ Fills (row.point-model at) (point-model «has_model» (min width 32) 0 .dec) (now (s .entry)) c r (now (n .entry)) (now (n .exit)) ⌝ }
 {
     let mut present = false;
@@ -52,8 +58,14 @@ fn point_model(
     Step::Next(c)
 }
 
-fn point_delay(s: &[u8], c: Cursor, has_delay: bool, at: usize, n: &mut [u32; 347]) -> Step
-    requires { ⌜ at + 9 ≤ 347 ⌝ }
+fn point_delay(
+    s: &[u8],
+    c: Cursor,
+    has_delay: bool,
+    at: usize,
+    n: &mut [u32; place::NUMBERS],
+) -> Step
+    requires { ⌜ at + 9 ≤ place.numbers ⌝ }
     ensures { λ r. ⌜ Fills (row.point-delay at) (point-delay «has_delay» 0 .dec) (now (s .entry)) c r (now (n .entry)) (now (n .exit)) ⌝ }
 {
     if !has_delay {
@@ -82,9 +94,9 @@ fn point_rest(
     width: u32,
     has_delay: bool,
     at: usize,
-    n: &mut [u32; 347],
+    n: &mut [u32; place::NUMBERS],
 ) -> Step
-    requires { ⌜ at + 9 ≤ 347 ⌝ }
+    requires { ⌜ at + 9 ≤ place.numbers ⌝ }
     ensures { λ r. ⌜ Fills (row.point-rest at) (point-rest level «has_model» (min width 32) «has_delay» 0 .dec) (now (s .entry)) c r (now (n .entry)) (now (n .exit)) ⌝ }
 {
     let t = f_if(s, c, 7 < level, 1, 0, &mut n[at + place::SEQ_TIER]);
@@ -105,9 +117,9 @@ fn operating_point(
     width: u32,
     has_delay: bool,
     at: usize,
-    n: &mut [u32; 347],
+    n: &mut [u32; place::NUMBERS],
 ) -> Step
-    requires { ⌜ at + 9 ≤ 347 ⌝ }
+    requires { ⌜ at + 9 ≤ place.numbers ⌝ }
     ensures { λ r. ⌜ Fills (row.operating-point at) (operating-point «has_model» (min width 32) «has_delay» 0 .dec) (now (s .entry)) c r (now (n .entry)) (now (n .exit)) ⌝ }
 {
     let t = f(s, c, 12, &mut n[at]);
@@ -124,8 +136,8 @@ fn operating_point(
 }
 
 // With the reduced header only the level is coded.
-fn reduced_point(s: &[u8], c: Cursor, at: usize, n: &mut [u32; 347]) -> Step
-    requires { ⌜ at + 9 ≤ 347 ⌝ }
+fn reduced_point(s: &[u8], c: Cursor, at: usize, n: &mut [u32; place::NUMBERS]) -> Step
+    requires { ⌜ at + 9 ≤ place.numbers ⌝ }
     ensures { λ r. ⌜ Fills (row.operating-point at) (reduced-point .dec) (now (s .entry)) c r (now (n .entry)) (now (n .exit)) ⌝ }
 {
     let mut level = 0;
@@ -153,9 +165,9 @@ fn any_point(
     width: u32,
     has_delay: bool,
     at: usize,
-    n: &mut [u32; 347],
+    n: &mut [u32; place::NUMBERS],
 ) -> Step
-    requires { ⌜ at + 9 ≤ 347 ⌝ }
+    requires { ⌜ at + 9 ≤ place.numbers ⌝ }
     ensures { λ r. ⌜ Fills (row.operating-point at) (any-point reduced «has_model» (min width 32) «has_delay» 0 .dec) (now (s .entry)) c r (now (n .entry)) (now (n .exit)) ⌝ }
 {
     if reduced {
@@ -173,7 +185,7 @@ pub fn operating_points(
     width: u32,
     has_delay: bool,
     count: usize,
-    n: &mut [u32; 347],
+    n: &mut [u32; place::NUMBERS],
 ) -> Step
     requires { ⌜ count ≤ 32 ⌝ }
     ensures { λ r. ⌜ Fills (row.operating-points place.operating-points count) (point-list reduced «has_model» (min width 32) «has_delay» count .dec) (now (s .entry)) c r (now (n .entry)) (now (n .exit)) ⌝ }
@@ -201,7 +213,13 @@ pub fn operating_points(
 }
 
 // initial_display_delay_present_flag, operating_points_cnt_minus_1, and so many points.
-pub fn points(s: &[u8], c: Cursor, has_model: bool, width: u32, n: &mut [u32; 347]) -> Step
+pub fn points(
+    s: &[u8],
+    c: Cursor,
+    has_model: bool,
+    width: u32,
+    n: &mut [u32; place::NUMBERS],
+) -> Step
     ensures { λ r. ⌜ Fills (row.points .from place.points) (points «has_model» (min width 32) .dec) (now (s .entry)) c r (now (n .entry)) (now (n .exit)) ⌝ }
 {
     let mut has_delay = false;

@@ -22,7 +22,7 @@ pub struct Part {
 }
 
 // One OBU, the whole of `input`, into n.
-fn one_obu(input: &[u8], n: &mut [u32; 347]) -> Outcome
+fn one_obu(input: &[u8], n: &mut [u32; place::NUMBERS]) -> Outcome
     ensures { λ r. ⌜ Holds (now (input .entry)) (now (n .entry)) r (now (n .exit)) ⌝ }
 {
     if 65536 < input.len() {
@@ -53,10 +53,10 @@ fn one_obu(input: &[u8], n: &mut [u32; 347]) -> Outcome
 }
 
 // One OBU, the whole of `input`: its record's numbers; where it is refused, they are as they were.
-pub fn read_sequence_header(input: &[u8], numbers: &mut [u32; 347]) -> Outcome
+pub fn read_sequence_header(input: &[u8], numbers: &mut [u32; place::NUMBERS]) -> Outcome
     ensures { λ r. ⌜ Answers (now (input .entry)) (now (numbers .entry)) r (now (numbers .exit)) ⌝ }
 {
-    let mut n = [0u32; 347];
+    let mut n = [0u32; place::NUMBERS];
     let o = one_obu(input, &mut n);
     let Outcome::Done = o else {
         return o;
@@ -84,7 +84,7 @@ fn behind(input: &[u8]) -> usize
 pub fn payload_part(input: &[u8]) -> Part
     ensures { λ r. ⌜ r ≡ payloadPart (now (input .entry)) ⌝ }
 {
-    let mut n = [0u32; 347];
+    let mut n = [0u32; place::NUMBERS];
     let o = one_obu(input, &mut n);
     let Outcome::Done = o else {
         return Part { place: 0, size: 0 };

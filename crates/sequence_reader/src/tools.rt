@@ -9,7 +9,7 @@ ghost use Rattle.sequence_reader.specs.Layouts as row;
 ghost use Rattle.sequence_reader.specs.Places as place;
 ghost use Rattle.sequence_reader.specs.Tails.{choice-apart};
 
-pub fn block_tools(s: &[u8], c: Cursor, n: &mut [u32; 347]) -> Step
+pub fn block_tools(s: &[u8], c: Cursor, n: &mut [u32; place::NUMBERS]) -> Step
     ensures { λ r. ⌜ Fills (row.block-tools .from place.tools) (block-tools .dec) (now (s .entry)) c r (now (n .entry)) (now (n .exit)) ⌝ }
 {
     let t = mark(s, c, &mut n[place::USE_128X128_SUPERBLOCK]);
@@ -23,7 +23,7 @@ pub fn block_tools(s: &[u8], c: Cursor, n: &mut [u32; 347]) -> Step
     mark(s, c, &mut n[place::ENABLE_INTRA_EDGE_FILTER])
 }
 
-fn hint_tools(s: &[u8], c: Cursor, order_hint: bool, n: &mut [u32; 347]) -> Step
+fn hint_tools(s: &[u8], c: Cursor, order_hint: bool, n: &mut [u32; place::NUMBERS]) -> Step
     ensures { λ r. ⌜ Fills (row.hint-tools .from place.hint-tools) (hint-tools «order_hint» .dec) (now (s .entry)) c r (now (n .entry)) (now (n .exit)) ⌝ }
 {
     let t = mark_if(s, c, order_hint, false, &mut n[place::ENABLE_JNT_COMP]);
@@ -54,7 +54,7 @@ fn integer_mv(s: &[u8], c: Cursor, screen: u32, choose: &mut bool, force: &mut u
     Step::Next(c)
 }
 
-fn hint_bits(s: &[u8], c: Cursor, order_hint: bool, n: &mut [u32; 347]) -> Step
+fn hint_bits(s: &[u8], c: Cursor, order_hint: bool, n: &mut [u32; place::NUMBERS]) -> Step
     ensures { λ r. ⌜ Fills (row.hint-bits .from place.hint-bits) (hint-bits «order_hint» .dec) (now (s .entry)) c r (now (n .entry)) (now (n .exit)) ⌝ }
 {
     if !order_hint {
@@ -73,7 +73,7 @@ fn hint_bits(s: &[u8], c: Cursor, order_hint: bool, n: &mut [u32; 347]) -> Step
 }
 
 // The tools from seq_choose_screen_content_tools on.
-fn motion_tools(s: &[u8], c: Cursor, order_hint: bool, n: &mut [u32; 347]) -> Step
+fn motion_tools(s: &[u8], c: Cursor, order_hint: bool, n: &mut [u32; place::NUMBERS]) -> Step
     ensures { λ r. ⌜ Fills (row.motion-tools .from place.motion-tools) (motion-tools «order_hint» .dec) (now (s .entry)) c r (now (n .entry)) (now (n .exit)) ⌝ }
 {
     let mut choose = false;
@@ -96,7 +96,7 @@ fn motion_tools(s: &[u8], c: Cursor, order_hint: bool, n: &mut [u32; 347]) -> St
 }
 
 // The tools from enable_dual_filter on.
-fn order_tools(s: &[u8], c: Cursor, n: &mut [u32; 347]) -> Step
+fn order_tools(s: &[u8], c: Cursor, n: &mut [u32; place::NUMBERS]) -> Step
     ensures { λ r. ⌜ Fills (row.order-tools .from place.order-tools) (order-tools .dec) (now (s .entry)) c r (now (n .entry)) (now (n .exit)) ⌝ }
 {
     let t = mark(s, c, &mut n[place::ENABLE_DUAL_FILTER]);
@@ -116,7 +116,7 @@ fn order_tools(s: &[u8], c: Cursor, n: &mut [u32; 347]) -> Step
     motion_tools(s, c, order_hint, n)
 }
 
-fn full_tools(s: &[u8], c: Cursor, n: &mut [u32; 347]) -> Step
+fn full_tools(s: &[u8], c: Cursor, n: &mut [u32; place::NUMBERS]) -> Step
     ensures { λ r. ⌜ Fills (row.inter-tools .from place.inter-tools) (full-tools .dec) (now (s .entry)) c r (now (n .entry)) (now (n .exit)) ⌝ }
 {
     let t = mark(s, c, &mut n[place::ENABLE_INTERINTRA_COMPOUND]);
@@ -134,7 +134,7 @@ fn full_tools(s: &[u8], c: Cursor, n: &mut [u32; 347]) -> Step
     order_tools(s, c, n)
 }
 
-pub fn inter_tools(s: &[u8], c: Cursor, reduced: bool, n: &mut [u32; 347]) -> Step
+pub fn inter_tools(s: &[u8], c: Cursor, reduced: bool, n: &mut [u32; place::NUMBERS]) -> Step
     ensures { λ r. ⌜ Fills (row.inter-tools .from place.inter-tools) (inter-tools reduced .dec) (now (s .entry)) c r (now (n .entry)) (now (n .exit)) ⌝ }
 {
     if !reduced {
@@ -156,7 +156,7 @@ pub fn inter_tools(s: &[u8], c: Cursor, reduced: bool, n: &mut [u32; 347]) -> St
     Step::Next(c)
 }
 
-pub fn filter_tools(s: &[u8], c: Cursor, n: &mut [u32; 347]) -> Step
+pub fn filter_tools(s: &[u8], c: Cursor, n: &mut [u32; place::NUMBERS]) -> Step
     ensures { λ r. ⌜ Fills (row.filter-tools .from place.filter-tools) (filter-tools .dec) (now (s .entry)) c r (now (n .entry)) (now (n .exit)) ⌝ }
 {
     let t = mark(s, c, &mut n[place::ENABLE_SUPERRES]);

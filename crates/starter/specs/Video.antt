@@ -38,6 +38,7 @@ color depth = record {
   «subsampling_y» = true;
   «chroma_sample_position» = 0;
   «separate_uv_delta_q» = false;
+  «num_planes» = 3;
 }
 
 -- the one operating point: all layers, at level 31, which claims no limit

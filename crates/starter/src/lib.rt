@@ -31,12 +31,12 @@ fn profile(bit_depth: u32) -> u32
 }
 
 // The numbers of the record, whatever was there.
-pub fn video(width: u32, height: u32, bit_depth: u32, numbers: &mut [u32; 347])
+pub fn video(width: u32, height: u32, bit_depth: u32, numbers: &mut [u32; place::NUMBERS])
     ensures { λ _. ⌜ now (numbers .exit) ≡ numbers-of (video width height «bit_depth») ⌝ }
 {
     let w = minus_1(width);
     let h = minus_1(height);
-    let mut n = [0u32; 347];
+    let mut n = [0u32; place::NUMBERS];
     n[place::OBU_TYPE] = 1;
     n[place::HAS_SIZE_FIELD] = 1;
     n[place::SEQ_PROFILE] = profile(bit_depth);
@@ -70,5 +70,6 @@ pub fn video(width: u32, height: u32, bit_depth: u32, numbers: &mut [u32; 347])
     n[place::MATRIX_COEFFICIENTS] = 2;
     n[place::SUBSAMPLING_X] = 1;
     n[place::SUBSAMPLING_Y] = 1;
+    n[place::NUM_PLANES] = 3;
     *numbers = n;
 }

@@ -55,6 +55,7 @@ names =
     (44, "subsampling_y") ∷
     (45, "chroma_sample_position") ∷
     (46, "separate_uv_delta_q") ∷
+    (47, "NumPlanes") ∷
     (51, "base_q_idx") ∷
     (52, "delta_q_y_dc") ∷
     (53, "diff_uv_delta") ∷

@@ -100,7 +100,8 @@ fn name(out: &mut [u8], at: usize, element: u32) -> usize
         subsampling_x,\
         subsampling_y,\
         chroma_sample_position,\
-        separate_uv_delta_q,,,,,\
+        separate_uv_delta_q,\
+        NumPlanes,,,,\
         base_q_idx,\
         delta_q_y_dc,\
         diff_uv_delta,\

@@ -1,6 +1,6 @@
 -- The records of document 01's worked table.
 use mathlib.Core.List.{List, _∷_}
-use mathlib.Core.Bool.{Bool, true, false}
+use mathlib.Core.Bool.{Bool, true, false, cond}
 use Prim.Native.Nat.{ℕ}
 use lib.ListN.{replicate}
 use lib.IntN.{pos, negsuc}
@@ -70,6 +70,7 @@ color mono = record {
   «subsampling_y» = true;
   «chroma_sample_position» = 0;
   «separate_uv_delta_q» = false;
+  «num_planes» = cond mono 1 3;
 }
 
 -- reduced still, 1 by 1, level 0, mono, other coded fields 0, inferred ones as inferred; with a width and its bit count minus 1

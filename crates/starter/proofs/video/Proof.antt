@@ -5,7 +5,7 @@ use Rattle.starter.specs.Video.{video}
 use Rattle.starter.proofs.video.Statement.{statement}
 use Rattle.starter.proofs.video.Tie as tie
 
--- both sides are 347 numbers, once the five that calls give are known
+-- both sides are numbers, once the five that calls give are known
 returns : tie.Need-returns
 unfolding numbers-of video at of each nowhere _▸_ _▹_
 returns c =
@@ -30,5 +30,5 @@ video-spec =
     (λ c. search needs) (λ c. search needs) (λ c. search needs) (λ c. search needs)
     (λ c. search needs) (λ c. search needs) (λ c. search needs) (λ c. search needs)
     (λ c. search needs) (λ c. search needs) (λ c. search needs) (λ c. search needs)
-    (λ c. search needs) (λ c. search needs) (λ c. search needs) (λ c. search needs) (λ c. search needs)
+    (λ c. search needs) (λ c. search needs) (λ c. search needs) (λ c. search needs) (λ c. search needs) (λ c. search needs)
     returns)

@@ -2,11 +2,12 @@ use mathlib.Core.Path.{_≡_}
 use Prim.Native.Nat.{_≤_, _<_, _-_, _^_, _*_}
 use lib.ListN.{length}
 use borrow.Author.Needs.{needs}
+use Rattle.sequence_reader.specs.Places.{numbers}
 use Rattle.replay.proofs.show.row.Statement.{statement}
 use Rattle.replay.proofs.show.row.Tie as tie
 
 abbrev Inv-loop : tie.InvT-loop
-Inv-loop out₀ at «record» from to end₀ i₀ out end i = (to ≤ 347) × (length out ≡ length out₀)
+Inv-loop out₀ at «record» from to end₀ i₀ out end i = (to ≤ numbers) × (length out ≡ length out₀)
 
 abbrev μ-loop : tie.MeasureT-loop
 μ-loop out₀ at «record» from to end₀ i₀ out end i = to - i
