@@ -55,6 +55,7 @@ static const struct friscurella_sequence_header *header(unsigned n, bool has_siz
   q->obu_header.obu_type = FRISCURELLA_OBU_SEQUENCE_HEADER; q->obu_header.has_size_field = has_size_field;
   q->seq_force_screen_content_tools = FRISCURELLA_SELECT_SCREEN_CONTENT_TOOLS; q->seq_force_integer_mv = FRISCURELLA_SELECT_INTEGER_MV;
   c->color_primaries = c->transfer_characteristics = c->matrix_coefficients = 2; c->subsampling_x = c->subsampling_y = 1;
+  c->num_planes = n == 2 ? 1 : 3;
   if (n == 2) q->still_picture = q->reduced_still_picture_header = c->mono_chrome = 1;
   else common(q);
   if (n == 32 || n == 33) q->operating_points_cnt_minus_1 = 31;

@@ -296,7 +296,7 @@ struct friscurella_sequence_header {
 };
 
 /* A part of the frame header begins with its context: what the headers say before it. There, all
-   but planes and primary_ref_frame are flags. */
+   but planes and primary_ref_frame are flags. friscurella_make_.._context below builds it. */
 
 struct friscurella_quantization_context {
   int32_t planes;              /* num_planes: any number but 1 counts as 3 */
@@ -432,6 +432,24 @@ uint32_t friscurella_write_temporal_delimiter(const struct friscurella_obu_heade
                                               uint8_t *out, size_t length,
                                               struct friscurella_answer *answer);
 
+/* Each fills the context of a part from the sequence header's record and the frame's own values:
+   flags are 0 or 1, and planes is 1 or 3. Of a record that friscurella_write_sequence_header
+   accepts, or that friscurella_read_sequence_header gave, planes is 1 exactly where mono_chrome is
+   set. (Segmentation takes nothing from the sequence header.) */
+void friscurella_make_quantization_context(const struct friscurella_sequence_header *header,
+                                           struct friscurella_quantization_context *context);
+void friscurella_make_segmentation_context(int32_t primary_ref_frame,
+                                           struct friscurella_segmentation_context *context);
+void friscurella_make_loop_filter_context(const struct friscurella_sequence_header *header,
+                                          bool coded_lossless, bool allow_intrabc,
+                                          struct friscurella_loop_filter_context *context);
+void friscurella_make_cdef_context(const struct friscurella_sequence_header *header,
+                                   bool coded_lossless, bool allow_intrabc,
+                                   struct friscurella_cdef_context *context);
+void friscurella_make_lr_context(const struct friscurella_sequence_header *header,
+                                 bool all_lossless, bool allow_intrabc,
+                                 struct friscurella_lr_context *context);
+
 /* Each writes a part of a frame header from the bit `place` of `out` on; bit 0 is the top bit of
    out[0].
    DONE, end: the part is the bits from `place` to end - 1, whole, and every other bit is as it was.
@@ -491,10 +509,15 @@ FRISCURELLA_NUMBERS(answer, 4);
 FRISCURELLA_NUMBERS(part, 2);
 FRISCURELLA_NUMBERS(obu_header, 5);
 FRISCURELLA_NUMBERS(sequence_header, 348);
+FRISCURELLA_NUMBERS(quantization_context, 2);
 FRISCURELLA_NUMBERS(quantization_params, 13);
+FRISCURELLA_NUMBERS(segmentation_context, 1);
 FRISCURELLA_NUMBERS(segmentation_params, 133);
+FRISCURELLA_NUMBERS(loop_filter_context, 3);
 FRISCURELLA_NUMBERS(loop_filter_params, 20);
+FRISCURELLA_NUMBERS(cdef_context, 4);
 FRISCURELLA_NUMBERS(cdef_params, 38);
+FRISCURELLA_NUMBERS(lr_context, 7);
 FRISCURELLA_NUMBERS(lr_params, 14);
 #undef FRISCURELLA_NUMBERS
 #undef FRISCURELLA_CLAIM

@@ -34,8 +34,9 @@ static bool accepted(uint32_t width, uint32_t height, uint32_t depth) {
   const struct friscurella_color_config *color = &back.color_config;
   bool depths = 8 + 2 * color->high_bitdepth + 2 * color->twelve_bit == depth;
   check(depths, "the depth is the one asked for", width, height, depth);
-  bool planes = !color->mono_chrome && color->subsampling_x && color->subsampling_y;
-  check(planes, "the video is 4:2:0", width, height, depth);
+  bool three = !color->mono_chrome && color->num_planes == 3;
+  bool sampled = three && color->subsampling_x && color->subsampling_y;
+  check(sampled, "the video is 4:2:0", width, height, depth);
   check(back.operating_points[0].seq_level_idx == 31, "the level is 31", width, height, depth);
   return true;
 }

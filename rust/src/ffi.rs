@@ -60,6 +60,25 @@ extern "C" {
         length: usize,
         answer: &mut Answer,
     ) -> u32;
+    fn friscurella_make_quantization_context(header: &[u32; 348], context: &mut [i32; 2]);
+    fn friscurella_make_loop_filter_context(
+        header: &[u32; 348],
+        coded_lossless: bool,
+        allow_intrabc: bool,
+        context: &mut [i32; 3],
+    );
+    fn friscurella_make_cdef_context(
+        header: &[u32; 348],
+        coded_lossless: bool,
+        allow_intrabc: bool,
+        context: &mut [i32; 4],
+    );
+    fn friscurella_make_lr_context(
+        header: &[u32; 348],
+        all_lossless: bool,
+        allow_intrabc: bool,
+        context: &mut [i32; 7],
+    );
     fn friscurella_read_sequence_header(
         input: *const u8,
         length: usize,
@@ -110,6 +129,25 @@ writers! {
     write_loop_filter_params friscurella_write_loop_filter_params [i32; 20] (place);
     write_cdef_params friscurella_write_cdef_params [i32; 38] (place);
     write_lr_params friscurella_write_lr_params [i32; 14] (place);
+}
+
+/// A function for each context that goes by the sequence header, with the frame's own flags.
+macro_rules! contexts {
+    ($($name:ident $call:ident $count:literal ($($flag:ident),*);)+) => {
+        $(pub fn $name(header: &[u32; 348] $(, $flag: bool)*) -> [i32; $count] {
+            let mut context = [0; $count];
+            // SAFETY: `header` is lent for the call; `context` is a local.
+            unsafe { $call(header $(, $flag)*, &mut context) };
+            context
+        })+
+    };
+}
+
+contexts! {
+    quantization_context friscurella_make_quantization_context 2 ();
+    loop_filter_context friscurella_make_loop_filter_context 3 (coded_lossless, allow_intrabc);
+    cdef_context friscurella_make_cdef_context 4 (coded_lossless, allow_intrabc);
+    lr_context friscurella_make_lr_context 7 (all_lossless, allow_intrabc);
 }
 
 pub fn read_sequence_header(input: &[u8]) -> ([u32; 348], Answer) {

@@ -120,6 +120,18 @@ fn records_are_those_of_the_c_header() {
 }
 
 #[test]
+fn contexts_are_those_of_the_c_header() {
+    let quantization = names::<QuantizationContext>();
+    assert_record("quantization_context", "int32_t", &quantization);
+    let segmentation = names::<SegmentationContext>();
+    assert_record("segmentation_context", "int32_t", &segmentation);
+    let loop_filter = names::<LoopFilterContext>();
+    assert_record("loop_filter_context", "int32_t", &loop_filter);
+    assert_record("cdef_context", "int32_t", &names::<CdefContext>());
+    assert_record("lr_context", "int32_t", &names::<LoopRestorationContext>());
+}
+
+#[test]
 fn answers_are_those_of_the_c_header() {
     let answer = [".number", ".first", ".second", ".third"].map(String::from);
     assert_record("answer", "uint32_t", &answer);

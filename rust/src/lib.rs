@@ -46,7 +46,7 @@ mod numbers;
 mod record;
 mod refusal;
 
-use numbers::{from_unsigned, signed, unsigned, Numbers};
+use numbers::{from_signed, from_unsigned, signed, unsigned, Numbers};
 pub use record::*;
 pub use refusal::{Element, Refusal};
 
@@ -61,6 +61,8 @@ pub fn version() -> u32 {
 
 // The lengths of the arrays that cross.
 const _: () = assert!(SequenceHeaderObu::COUNT == 348 && ObuHeader::COUNT == 5);
+const _: () = assert!(QuantizationContext::COUNT == 2 && LoopFilterContext::COUNT == 3);
+const _: () = assert!(CdefContext::COUNT == 4 && LoopRestorationContext::COUNT == 7);
 const _: () = assert!(QuantizationContext::COUNT + QuantizationParams::COUNT == 13);
 const _: () = assert!(SegmentationContext::COUNT + SegmentationParams::COUNT == 133);
 const _: () = assert!(LoopFilterContext::COUNT + LoopFilterParams::COUNT == 20);
@@ -89,6 +91,51 @@ pub fn write_sequence_header(header: &SequenceHeaderObu, out: &mut [u8]) -> Resu
 pub fn write_temporal_delimiter(header: &ObuHeader, out: &mut [u8]) -> Result<usize, Refusal> {
     let answer = ffi::write_temporal_delimiter(&unsigned(header), out);
     refusal::done(answer).map(|bytes| bytes as usize)
+}
+
+/// What [`write_quantization_params`] goes by. Of a header that [`write_sequence_header`] accepts, or
+/// that [`read_sequence_header`] gave, there is one plane exactly with `mono_chrome`, here and in
+/// the other contexts.
+pub fn quantization_context(header: &SequenceHeaderObu) -> QuantizationContext {
+    from_signed(&ffi::quantization_context(&unsigned(header)))
+}
+
+/// What [`write_segmentation_params`] goes by: it takes nothing from the sequence header.
+pub fn segmentation_context(primary_ref_frame: u32) -> SegmentationContext {
+    SegmentationContext { primary_ref_frame }
+}
+
+/// What [`write_loop_filter_params`] goes by.
+pub fn loop_filter_context(
+    header: &SequenceHeaderObu,
+    coded_lossless: bool,
+    allow_intrabc: bool,
+) -> LoopFilterContext {
+    let numbers = unsigned(header);
+    let context = ffi::loop_filter_context(&numbers, coded_lossless, allow_intrabc);
+    from_signed(&context)
+}
+
+/// What [`write_cdef_params`] goes by.
+pub fn cdef_context(
+    header: &SequenceHeaderObu,
+    coded_lossless: bool,
+    allow_intrabc: bool,
+) -> CdefContext {
+    let numbers = unsigned(header);
+    let context = ffi::cdef_context(&numbers, coded_lossless, allow_intrabc);
+    from_signed(&context)
+}
+
+/// What [`write_lr_params`] goes by.
+pub fn lr_context(
+    header: &SequenceHeaderObu,
+    all_lossless: bool,
+    allow_intrabc: bool,
+) -> LoopRestorationContext {
+    let numbers = unsigned(header);
+    let context = ffi::lr_context(&numbers, all_lossless, allow_intrabc);
+    from_signed(&context)
 }
 
 /// Writes `quantization_params` (5.9.12) from the bit `place` of `out` on (bit 0 is the top bit of

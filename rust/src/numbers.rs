@@ -118,6 +118,12 @@ pub(crate) fn from_unsigned<T: Numbers>(numbers: &[u32]) -> T {
     T::take(&mut || numbers.next().unwrap_or(0))
 }
 
+/// The record of numbers that have a sign.
+pub(crate) fn from_signed<T: Numbers>(numbers: &[i32]) -> T {
+    let mut numbers = numbers.iter().copied().map(i64::from);
+    T::take(&mut || numbers.next().unwrap_or(0))
+}
+
 /// The numbers of a part of the frame header: the context first. A number over 2^31 - 1 crosses as
 /// -1, which counts as 2^32 - 1: every field of a part takes or refuses the two alike, and both need
 /// 32 bits.

@@ -2,6 +2,7 @@
 use bits::answer::Numbered;
 use bits::answer::answer_numbers;
 use cdef_numbers::write_cdef_numbers;
+use contexts::of_numbers::*;
 use loop_filter_numbers::write_loop_filter_numbers;
 use obu::delimiter::is_temporal_delimiter;
 use quantization_numbers::write_quantization_numbers;
@@ -15,6 +16,7 @@ use sequence_reader::read::payload_part;
 use sequence_reader::read::read_sequence_header;
 use starter::video;
 use words::explain;
+ghost use mathlib.Core.List.{[], _∷_};
 ghost use mathlib.Core.Path.{_≡_};
 ghost use lib.ListN.{length};
 ghost use Rattle.obu.specs.Delimiter.{temporal-delimiter, IsDelimiter, Tells};
@@ -27,6 +29,8 @@ ghost use Rattle.segmentation_numbers.specs.Numbers.{segmentation-walk};
 ghost use Rattle.loop_filter_numbers.specs.Numbers.{loop-filter-walk};
 ghost use Rattle.cdef_numbers.specs.Numbers.{cdef-walk};
 ghost use Rattle.restoration_numbers.specs.Numbers.{lr-walk};
+ghost use Rattle.contexts.specs.Contexts.{quantization-context, loop-filter-context, cdef-context, lr-context};
+ghost use Rattle.contexts.specs.Numbers.{quantization-numbers, loop-filter-numbers, cdef-numbers, lr-numbers};
 ghost use Rattle.starter.specs.Video.{video};
 ghost use Rattle.words.specs.Sentence.{explained, cut};
 ghost use Rattle.friscurella.specs.Calls.{version, answer-of, outcome-numbers, part-numbers, lent, wrote-obu, wrote-part, was-read};
@@ -171,6 +175,63 @@ pub extern "C" fn friscurella_write_lr_params(
 {
     let a = write_restoration_numbers(record, out, place);
     tell(answer_numbers(a), answer)
+}
+
+// What a part goes by, from the sequence header's record and the frame's own values.
+#[no_mangle]
+pub extern "C" fn friscurella_make_quantization_context(
+    header: &[u32; place::NUMBERS],
+    context: &mut [i32; 2],
+)
+    ensures { λ _. ⌜ now (context .exit) ≡ quantization-numbers (quantization-context (record-of (now (header .entry)))) ⌝ }
+{
+    *context = quantization_context(header);
+}
+
+#[no_mangle]
+pub extern "C" fn friscurella_make_segmentation_context(
+    primary_ref_frame: i32,
+    context: &mut [i32; 1],
+)
+    ensures { λ _. ⌜ now (context .exit) ≡ «primary_ref_frame» ∷ [] ⌝ }
+{
+    *context = [primary_ref_frame];
+}
+
+#[no_mangle]
+pub extern "C" fn friscurella_make_loop_filter_context(
+    header: &[u32; place::NUMBERS],
+    coded_lossless: bool,
+    allow_intrabc: bool,
+    context: &mut [i32; 3],
+)
+    ensures { λ _. ⌜ now (context .exit) ≡ loop-filter-numbers (loop-filter-context (record-of (now (header .entry))) «coded_lossless» «allow_intrabc») ⌝ }
+{
+    *context = loop_filter_context(header, coded_lossless, allow_intrabc);
+}
+
+#[no_mangle]
+pub extern "C" fn friscurella_make_cdef_context(
+    header: &[u32; place::NUMBERS],
+    coded_lossless: bool,
+    allow_intrabc: bool,
+    context: &mut [i32; 4],
+)
+    ensures { λ _. ⌜ now (context .exit) ≡ cdef-numbers (cdef-context (record-of (now (header .entry))) «coded_lossless» «allow_intrabc») ⌝ }
+{
+    *context = cdef_context(header, coded_lossless, allow_intrabc);
+}
+
+#[no_mangle]
+pub extern "C" fn friscurella_make_lr_context(
+    header: &[u32; place::NUMBERS],
+    all_lossless: bool,
+    allow_intrabc: bool,
+    context: &mut [i32; 7],
+)
+    ensures { λ _. ⌜ now (context .exit) ≡ lr-numbers (lr-context (record-of (now (header .entry))) «all_lossless» «allow_intrabc») ⌝ }
+{
+    *context = lr_context(header, all_lossless, allow_intrabc);
 }
 
 // Where the input is refused, the record is as it was.

@@ -1,0 +1,3 @@
+pub mod Agreeing
+pub mod Crossing
+pub mod Records
