@@ -652,7 +652,7 @@ fn refusals_are_errors_in_words() {
         Element::from_number(36).map(Element::name),
         Some("OrderHintBits")
     );
-    assert_eq!(Element::from_number(47), None);
+    assert_eq!(Element::from_number(48), None);
 }
 
 #[test]
