@@ -1,5 +1,5 @@
 -- No context can be built that disagrees with a record that the writer accepts, or that the reader gave.
-use mathlib.Core.Path.{_≡_, ap}
+use mathlib.Core.Path.{_≡_}
 use mathlib.Core.Bool.{Bool, true, false}
 use mathlib.Core.List.{List}
 use Prim.Native.Nat.{ℕ}
