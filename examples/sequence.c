@@ -1,4 +1,5 @@
-/* Writes the sequence header of a 1920 by 1080 video, reads it back, and shows a refusal. */
+/* Writes the sequence header of a 1920 by 1080 video, reads it back, writes a part of a frame header
+   that goes by it, and shows a refusal. */
 #include <stdio.h>
 
 #include "friscurella.h"
@@ -11,6 +12,7 @@ static int refused(const struct friscurella_answer *answer) {
 }
 
 int main(void) {
+  static struct friscurella_quantization_params quantization; /* all 0 */
   struct friscurella_sequence_header header, back;
   struct friscurella_answer answer;
   uint8_t buffer[64];
@@ -28,6 +30,13 @@ int main(void) {
   if (answer.number != FRISCURELLA_DONE) return refused(&answer);
   printf("\nread: %u by %u\n", (unsigned)back.max_frame_width_minus_1 + 1,
          (unsigned)back.max_frame_height_minus_1 + 1);
+
+  friscurella_make_quantization_context(&back, &quantization.context);
+  quantization.base_q_idx = 100;
+  friscurella_write_quantization_params(&quantization, 0, buffer, sizeof buffer, &answer);
+  if (answer.number != FRISCURELLA_DONE) return refused(&answer);
+  printf("quantization of %d planes: %u bits\n", (int)quantization.context.planes,
+         (unsigned)answer.first);
 
   /* The tier is coded at levels over 7 only. */
   header.operating_points[0].seq_level_idx = 7;

@@ -1,5 +1,9 @@
-//! Writes the sequence header of a 1920 by 1080 video, reads it back, and shows a refusal.
-use friscurella::{read_sequence_header, write_sequence_header, Refusal, SequenceHeaderObu};
+//! Writes the sequence header of a 1920 by 1080 video, reads it back, writes a part of a frame
+//! header that goes by it, and shows a refusal.
+use friscurella::{
+    quantization_context, read_sequence_header, write_quantization_params, write_sequence_header,
+    QuantizationParams, Refusal, SequenceHeaderObu,
+};
 
 fn main() -> Result<(), Refusal> {
     assert_eq!(friscurella::version(), friscurella::VERSION);
@@ -16,6 +20,14 @@ fn main() -> Result<(), Refusal> {
     let back = read_sequence_header(&buffer[..length])?;
     let (width, height) = (back.max_frame_width_minus_1, back.max_frame_height_minus_1);
     println!("read: {} by {}", width + 1, height + 1);
+
+    let context = quantization_context(&back);
+    let params = QuantizationParams {
+        base_q_idx: 100,
+        ..Default::default()
+    };
+    let end = write_quantization_params(&params, &context, &mut buffer, 0)?;
+    println!("quantization of {} planes: {end} bits", context.planes);
 
     // The tier is coded at levels over 7 only.
     header.operating_points[0].seq_level_idx = 7;
