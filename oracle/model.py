@@ -338,6 +338,10 @@ class Writer:
         if h.has_size_field:
             self.leb128(0)
 
+    # any number of planes but 1 counts as 3 (request 7)
+    def three_planes(self, p):
+        return p.planes != 1
+
     # 5.9.11
     def loop_filter_params(self, p):
         if p.coded_lossless or p.allow_intrabc:
@@ -361,7 +365,7 @@ class Writer:
         self.demand(deltas == DEFAULT_REF_DELTAS, "loop_filter_ref_deltas")
 
     def chroma_levels_coded(self, p):
-        return p.planes != 1 and p.loop_filter_level[:2] != [0, 0]
+        return self.three_planes(p) and p.loop_filter_level[:2] != [0, 0]
 
     def loop_filter_delta(self, v, element, i):
         self.flag(1)
@@ -371,11 +375,11 @@ class Writer:
     def quantization_params(self, p):
         self.f(8, p.base_q_idx, "base_q_idx")
         self.delta_q(p.delta_q_y_dc, "delta_q_y_dc")
-        if p.planes == 1:
+        if self.three_planes(p):
+            self.chroma_deltas(p)
+        else:
             for name in ("delta_q_u_dc", "delta_q_u_ac", "delta_q_v_dc", "delta_q_v_ac"):
                 self.demand(getattr(p, name) == 0, name)
-        else:
-            self.chroma_deltas(p)
         self.flag(p.using_qmatrix)
         if p.using_qmatrix:
             self.f(4, p.qm_y, "qm_y")
@@ -456,7 +460,7 @@ class Writer:
     def cdef_strengths(self, p, i):
         self.f(4, p.cdef_y_pri_strength[i], "cdef_y_pri_strength", i)
         self.secondary(p.cdef_y_sec_strength[i], "cdef_y_sec_strength", i)
-        if p.planes != 1:
+        if self.three_planes(p):
             self.f(4, p.cdef_uv_pri_strength[i], "cdef_uv_pri_strength", i)
             self.secondary(p.cdef_uv_sec_strength[i], "cdef_uv_sec_strength", i)
 
@@ -492,7 +496,7 @@ class Writer:
             self.demand(p.lr_uv_shift == 0, "lr_uv_shift")
 
     def restoration_kinds(self, p):
-        kinds = p.frame_restoration_type[: 1 if p.planes == 1 else 3]
+        kinds = p.frame_restoration_type[: 3 if self.three_planes(p) else 1]
         for i, kind in enumerate(kinds):
             self.f(2, kind, "frame_restoration_type", i)
         return any(kinds), any(kinds[1:])

@@ -34,6 +34,7 @@ RULES = {
     28: "reference deltas where none are coded: the crate demands its own list, with places 4 and 5 of the standard's exchanged",
     30: "the buffer ends too early: the crate fills it and gives up, where it is, with an input/output error",
     31: "a slice over 65,536 bytes: the crate takes it",
+    34: "a part with 0 planes: the crate takes them for one",
 }
 
 # The largest number that the crate's type of a field holds, where that is less than ours.
@@ -162,6 +163,11 @@ class Crate(Writer):
         if q.chroma_sample_position != 0:
             self.row(13)
 
+    def three_planes(self, p):
+        if p.planes == 0:
+            self.row(34)
+        return p.planes > 1
+
     # 5.9.11
     def uncoded_ref_deltas(self, deltas):
         if deltas == OWN_REF_DELTAS or deltas == DEFAULT_REF_DELTAS and not self.release:
@@ -169,9 +175,9 @@ class Crate(Writer):
         self.demand(deltas == OWN_REF_DELTAS, "loop_filter_ref_deltas")
 
     def chroma_levels_coded(self, p):
-        both = p.planes != 1 and p.loop_filter_level[0] != 0 and p.loop_filter_level[1] != 0
-        if both != super().chroma_levels_coded(p):
-            self.row(20)
+        both = p.planes > 1 and p.loop_filter_level[0] != 0 and p.loop_filter_level[1] != 0
+        if both != Writer().chroma_levels_coded(p):
+            self.row(20 if p.planes else 34)
         return both
 
     def loop_filter_delta(self, v, element, i):

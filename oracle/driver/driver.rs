@@ -31,7 +31,6 @@ impl Numbers {
     fn u8<T: TryFrom<i64> + Default>(&mut self, name: &'static str) -> Result<T, Not> { let n = self.within(0, u8::MAX as i64)?; Ok(self.hold(name, n)) }
     fn i8<T: TryFrom<i64> + Default>(&mut self, name: &'static str) -> Result<T, Not> { let n = self.within(i8::MIN as i64, i8::MAX as i64)?; Ok(self.hold(name, n)) }
     fn i16<T: TryFrom<i64> + Default>(&mut self, name: &'static str) -> Result<T, Not> { let n = self.within(i16::MIN as i64, i16::MAX as i64)?; Ok(self.hold(name, n)) }
-    fn planes(&mut self) -> Result<u32, Not> { Ok(if self.within(0, u32::MAX as i64)? == 1 { 1 } else { 3 }) }
     fn end(&mut self) -> Result<(), Not> {
         if self.left.next().is_some() { return Err(Not::Bad); }
         match self.held { Some((name, n)) => Err(Not::Held(name, n)), None => Ok(()) }
@@ -135,7 +134,7 @@ fn derived(q: &mut SequenceHeaderObu) {
 }
 
 fn quantization(n: &mut Numbers, q: &mut SequenceHeaderObu) -> Result<FrameHeaderObu, Not> {
-    q.num_planes = n.planes()?;
+    q.num_planes = n.u("planes")?;
     q.color_config.separate_uv_delta_q = n.flag()?;
     Ok(FrameHeaderObu {
         quantization_params: QuantizationParams {
@@ -170,7 +169,7 @@ fn segmentation(n: &mut Numbers) -> Result<FrameHeaderObu, Not> {
 
 fn loop_filter(n: &mut Numbers, q: &mut SequenceHeaderObu) -> Result<FrameHeaderObu, Not> {
     let mut h = FrameHeaderObu { coded_lossless: n.flag()?, allow_intrabc: n.flag()?, ..Default::default() };
-    q.num_planes = n.planes()?;
+    q.num_planes = n.u("planes")?;
     let p = &mut h.loop_filter_params;
     for x in &mut p.loop_filter_level { *x = n.u("loop_filter_level")?; }
     p.loop_filter_sharpness = n.u("loop_filter_sharpness")?;
@@ -184,7 +183,7 @@ fn loop_filter(n: &mut Numbers, q: &mut SequenceHeaderObu) -> Result<FrameHeader
 fn cdef(n: &mut Numbers, q: &mut SequenceHeaderObu) -> Result<FrameHeaderObu, Not> {
     let mut h = FrameHeaderObu { coded_lossless: n.flag()?, allow_intrabc: n.flag()?, ..Default::default() };
     q.enable_cdef = n.flag()?;
-    q.num_planes = n.planes()?;
+    q.num_planes = n.u("planes")?;
     let p = &mut h.cdef_params;
     p.cdef_bits = n.u("cdef_bits")?;
     p.cdef_damping = n.u("cdef_damping")?;
@@ -198,7 +197,7 @@ fn cdef(n: &mut Numbers, q: &mut SequenceHeaderObu) -> Result<FrameHeaderObu, No
 fn restoration(n: &mut Numbers, q: &mut SequenceHeaderObu) -> Result<FrameHeaderObu, Not> {
     let mut h = FrameHeaderObu { all_lossless: n.flag()?, allow_intrabc: n.flag()?, ..Default::default() };
     q.enable_restoration = n.flag()?;
-    q.num_planes = n.planes()?;
+    q.num_planes = n.u("planes")?;
     q.use_128x128_superblock = n.flag()?;
     q.color_config.subsampling_x = n.flag()?;
     q.color_config.subsampling_y = n.flag()?;
