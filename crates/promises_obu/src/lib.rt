@@ -14,7 +14,7 @@ ghost use Rattle.sequence_reader.specs.Payload.{Hands};
 pub fn write_sequence_header(record: SequenceHeaderObu, out: &mut [u8]) -> Answer
     ensures { λ r. ⌜ Writes (sequence-header .enc «record») (now (out .entry)) r (now (out .exit)) ⌝ }
 {
-    sequence::write::write_sequence_header(record, out)
+    sequence_writer::write::write_sequence_header(record, out)
 }
 
 pub fn write_temporal_delimiter(header: ObuHeader, out: &mut [u8]) -> Answer

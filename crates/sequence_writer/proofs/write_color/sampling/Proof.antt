@@ -1,0 +1,16 @@
+use borrow.Author.Needs.{needs}
+use Rattle.bits.specs.Codec.{_▷_, select, via, flag, inferredFlag}
+use Rattle.sequence.specs.Optional.{flag-if}
+use Rattle.sequence.specs.Color.{sampling}
+use Rattle.bits.proofs.Walking.{walk}
+use Rattle.sequence_writer.proofs.write_color.sampling.Statement.{statement}
+use Rattle.sequence_writer.proofs.write_color.sampling.Tie as tie
+
+pub sampling-spec : {M : Type 1} → statement M
+unfolding sampling flag-if _▷_ select via flag inferredFlag
+sampling-spec =
+    tie.close
+    (tie.spec
+    (λ c κs. search needs) (λ c. search needs) (λ c. search needs) (λ c. search needs) (λ c. search walk depth 14)
+    (λ c κs. search needs) (λ c. search needs) (λ c. search needs) (λ c. search needs) (λ c. search walk depth 14)
+    (λ c κs. search needs) (λ c. search needs) (λ c. search walk depth 14))

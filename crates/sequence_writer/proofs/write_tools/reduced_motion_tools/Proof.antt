@@ -1,0 +1,15 @@
+use borrow.Author.Needs.{needs}
+use Rattle.bits.specs.Codec.{_▷_}
+use Rattle.sequence.specs.Tools.{reduced-motion-tools}
+use Rattle.bits.proofs.Walking.{walk}
+use Rattle.sequence_writer.proofs.write_tools.reduced_motion_tools.Statement.{statement}
+use Rattle.sequence_writer.proofs.write_tools.reduced_motion_tools.Tie as tie
+
+pub reduced-motion-tools-spec : {M : Type 1} → statement M
+unfolding reduced-motion-tools _▷_
+reduced-motion-tools-spec =
+    tie.close
+    (tie.spec
+    (λ c κs. search needs) (λ c. search needs) (λ c. search needs) (λ c. search needs) (λ c. search walk depth 14)
+    (λ c κs. search needs) (λ c. search needs) (λ c. search needs) (λ c. search needs) (λ c. search walk depth 14)
+    (λ c κs. search needs) (λ c. search needs) (λ c. search walk depth 14))
