@@ -3,6 +3,7 @@ use mathlib.Core.Path.{_≡_}
 use mathlib.Core.Bool.{Bool, true, false}
 use mathlib.Core.List.{List}
 use Prim.Native.Nat.{ℕ}
+use lib.Dec.{eqb}
 use Rattle.bits.specs.Codec.{_▷_, select, via, flag, inferred}
 use Rattle.bits.specs.declared.answer.Answer.{Answer}
 use Rattle.bits.specs.declared.answer.Answer.the-variants as W
@@ -10,6 +11,7 @@ use Rattle.obu.specs.Obu.{obu}
 use Rattle.obu.specs.Writer.{Writes}
 use Rattle.obu.specs.Demand3.{Consistent}
 use Rattle.obu.proofs.Writing.{done-is-ended}
+use Rattle.sequence.specs.declared.record.ColorConfig.{ColorConfig}
 use Rattle.sequence.specs.declared.record.SequenceHeaderObu.{SequenceHeaderObu}
 use Rattle.sequence.specs.Optional.{flag-if}
 use Rattle.sequence.specs.Color.{plane-count, color-rest, color-config}
@@ -21,38 +23,42 @@ use Rattle.sequence_reader.specs.Layouts.{record-of}
 use Rattle.sequence_reader.specs.Reader.{Answers}
 use Rattle.sequence_reader.proofs.Setting.{record-sets}
 use Rattle.sequence_reader.proofs.Numbering.{record-is}
-use Rattle.contexts.specs.Contexts.{counted, quantization-context, loop-filter-context, cdef-context, lr-context}
+use Rattle.contexts.specs.Contexts.{quantization-context, loop-filter-context, cdef-context, lr-context}
 
--- Each context is the record's: of planes there are 1 with mono_chrome and 3 without.
-pub record Agrees (h : SequenceHeaderObu) : Type 0 where
-  pub quantization : quantization-context h ≡ record { planes = plane-count (h .«color_config» .«mono_chrome»); «separate_uv_delta_q» = h .«color_config» .«separate_uv_delta_q» }
-  pub loop-filter : (lossless intrabc : Bool)
-      → loop-filter-context h lossless intrabc ≡ record { «coded_lossless» = lossless; «allow_intrabc» = intrabc; planes = plane-count (h .«color_config» .«mono_chrome») }
-  pub cdef : (lossless intrabc : Bool)
-      → cdef-context h lossless intrabc ≡ record { «coded_lossless» = lossless; «allow_intrabc» = intrabc; «enable_cdef» = h .«enable_cdef»; planes = plane-count (h .«color_config» .«mono_chrome») }
-  pub restoration : (lossless intrabc : Bool)
-      → lr-context h lossless intrabc ≡ record {
-        «all_lossless» = lossless;
-        «allow_intrabc» = intrabc;
-        «enable_restoration» = h .«enable_restoration»;
-        planes = plane-count (h .«color_config» .«mono_chrome»);
-        «use_128x128_superblock» = h .«use_128x128_superblock»;
-        «subsampling_x» = h .«color_config» .«subsampling_x»;
-        «subsampling_y» = h .«color_config» .«subsampling_y»;
-      }
+-- What each context is: the record's own, with one plane where mono_chrome is set and three where it is not.
+module _ (h : SequenceHeaderObu) where
+  abbrev color : ColorConfig
+  color = h .«color_config»
 
--- where the record's number of planes is that of its mono_chrome
-counted-is : (mono : Bool) {n : ℕ} → n ≡ plane-count mono → counted n ≡ plane-count mono
-counted-is true e = rw e
-counted-is false e = rw e
+  abbrev right : ℕ
+  right = plane-count (color .«mono_chrome»)
 
-agrees : (h : SequenceHeaderObu) → h .«color_config» .«num_planes» ≡ plane-count (h .«color_config» .«mono_chrome») → Agrees h
+  pub record Agrees : Type 0 where
+    pub quantization : quantization-context h ≡ record { planes = right; «separate_uv_delta_q» = color .«separate_uv_delta_q» }
+    pub loop-filter : (lossless intrabc : Bool) → loop-filter-context h lossless intrabc ≡ record { «coded_lossless» = lossless; «allow_intrabc» = intrabc; planes = right }
+    pub cdef : (lossless intrabc : Bool) → cdef-context h lossless intrabc ≡ record { «coded_lossless» = lossless; «allow_intrabc» = intrabc; «enable_cdef» = h .«enable_cdef»; planes = right }
+    pub restoration : (lossless intrabc : Bool) → lr-context h lossless intrabc ≡ record {
+      «all_lossless» = lossless;
+      «allow_intrabc» = intrabc;
+      «enable_restoration» = h .«enable_restoration»;
+      planes = right;
+      «use_128x128_superblock» = h .«use_128x128_superblock»;
+      «subsampling_x» = color .«subsampling_x»;
+      «subsampling_y» = color .«subsampling_y»;
+    }
+
+-- so they are where the record's number of planes is right, ..
+counts-right : (mono : Bool) {n : ℕ} → n ≡ plane-count mono → plane-count (eqb n 1) ≡ plane-count mono
+counts-right true e = rw e
+counts-right false e = rw e
+
+agrees : (h : SequenceHeaderObu) → h .«color_config» .«num_planes» ≡ right h → Agrees h
 agrees h e =
-    let c = counted-is (h .«color_config» .«mono_chrome») e in
+    let c = counts-right (h .«color_config» .«mono_chrome») e in
     record { quantization = rw c; loop-filter = λ l i. rw c; cdef = λ l i. rw c; restoration = λ l i. rw c }
 
--- so it is in every consistent record, since it is so in what is read of it
-consistent-planes : (h : SequenceHeaderObu) → Consistent sequence-header h → h .«color_config» .«num_planes» ≡ plane-count (h .«color_config» .«mono_chrome»)
+-- .. as it is in every consistent record, since it is in what is read of it
+consistent-planes : (h : SequenceHeaderObu) → Consistent sequence-header h → h .«color_config» .«num_planes» ≡ right h
 unfolding sequence-header sequence-header-obu body tools-and-color color-and-grain color-config color-rest flag-if obu _▷_ select via flag inferred
 consistent-planes h c =
     let g = sequence-demand3 .consistent-is-written h c in

@@ -7,14 +7,15 @@ use lib.Dec.{eqb}
 use lib.IntN.{ℤ, pos}
 use lib.ListN.{getD}
 use Rattle.fill.specs.Fills.{at, of, nowhere, _▸_}
+use Rattle.sequence.specs.Color.{plane-count}
 use Rattle.sequence_reader.specs.Layouts.{record-of}
 use Rattle.sequence_reader.specs.Places as place
-use Rattle.contexts.specs.Contexts.{counted, quantization-context, loop-filter-context, cdef-context, lr-context}
+use Rattle.contexts.specs.Contexts.{quantization-context, loop-filter-context, cdef-context, lr-context}
 use Rattle.contexts.specs.Numbers.{bit, quantization-numbers, loop-filter-numbers, cdef-numbers, lr-numbers}
 
 module _ (ns : List ℕ) where
   abbrev planes-at : ℤ
-  planes-at = pos (counted (getD ns place.num-planes 0))
+  planes-at = pos (plane-count (eqb (getD ns place.num-planes 0) 1))
 
   abbrev flag-at : ℕ → ℤ
   flag-at i = bit (not (eqb (getD ns i 0) 0))

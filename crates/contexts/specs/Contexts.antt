@@ -1,8 +1,9 @@
 -- What each part goes by: of the sequence header's record, and of the frame what its header says before the part.
-use mathlib.Core.Bool.{Bool, cond}
+use mathlib.Core.Bool.{Bool}
 use Prim.Native.Nat.{ℕ}
 use lib.Dec.{eqb}
 use Rattle.sequence.specs.declared.record.SequenceHeaderObu.{SequenceHeaderObu}
+use Rattle.sequence.specs.Color.{plane-count}
 use Rattle.quantization.specs.declared.record.QuantizationContext.{QuantizationContext}
 use Rattle.segmentation.specs.declared.record.SegmentationContext.{SegmentationContext}
 use Rattle.loop_filter.specs.declared.record.LoopFilterContext.{LoopFilterContext}
@@ -10,11 +11,8 @@ use Rattle.cdef.specs.declared.record.CdefContext.{CdefContext}
 use Rattle.restoration.specs.declared.record.LoopRestorationContext.{LoopRestorationContext}
 
 -- any number of planes but 1 counts as 3
-abbrev pub counted : ℕ → ℕ
-counted num-planes = cond (eqb num-planes 1) 1 3
-
 abbrev pub planes-of : SequenceHeaderObu → ℕ
-planes-of h = counted (h .«color_config» .«num_planes»)
+planes-of h = plane-count (eqb (h .«color_config» .«num_planes») 1)
 
 -- 5.9.12
 abbrev pub quantization-context : SequenceHeaderObu → QuantizationContext

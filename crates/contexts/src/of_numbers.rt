@@ -2,8 +2,9 @@
 use sequence_reader::place;
 ghost use mathlib.Core.Path.{_≡_};
 ghost use lib.IntN.{pos};
+ghost use Rattle.sequence.specs.Color.{plane-count};
 ghost use Rattle.sequence_reader.specs.Layouts.{record-of};
-ghost use Rattle.contexts.specs.Contexts.{counted, quantization-context, loop-filter-context, cdef-context, lr-context};
+ghost use Rattle.contexts.specs.Contexts.{quantization-context, loop-filter-context, cdef-context, lr-context};
 ghost use Rattle.contexts.specs.Numbers.{bit, quantization-numbers, loop-filter-numbers, cdef-numbers, lr-numbers};
 
 fn bit(set: bool) -> i32
@@ -12,17 +13,17 @@ fn bit(set: bool) -> i32
     if set { 1 } else { 0 }
 }
 
-fn planes(num_planes: u32) -> i32
-    ensures { λ r. ⌜ r ≡ pos (counted «num_planes») ⌝ }
+fn planes(one: bool) -> i32
+    ensures { λ r. ⌜ r ≡ pos (plane-count one) ⌝ }
 {
-    if num_planes == 1 { 1 } else { 3 }
+    if one { 1 } else { 3 }
 }
 
 pub fn quantization_context(header: &[u32; place::NUMBERS]) -> [i32; 2]
     ensures { λ r. ⌜ r ≡ quantization-numbers (quantization-context (record-of (now (header .entry)))) ⌝ }
 {
     [
-        planes(header[place::NUM_PLANES]),
+        planes(header[place::NUM_PLANES] == 1),
         bit(header[place::SEPARATE_UV_DELTA_Q] != 0),
     ]
 }
@@ -37,7 +38,7 @@ pub fn loop_filter_context(
     [
         bit(coded_lossless),
         bit(allow_intrabc),
-        planes(header[place::NUM_PLANES]),
+        planes(header[place::NUM_PLANES] == 1),
     ]
 }
 
@@ -52,7 +53,7 @@ pub fn cdef_context(
         bit(coded_lossless),
         bit(allow_intrabc),
         bit(header[place::ENABLE_CDEF] != 0),
-        planes(header[place::NUM_PLANES]),
+        planes(header[place::NUM_PLANES] == 1),
     ]
 }
 
@@ -67,7 +68,7 @@ pub fn lr_context(
         bit(all_lossless),
         bit(allow_intrabc),
         bit(header[place::ENABLE_RESTORATION] != 0),
-        planes(header[place::NUM_PLANES]),
+        planes(header[place::NUM_PLANES] == 1),
         bit(header[place::USE_128X128_SUPERBLOCK] != 0),
         bit(header[place::SUBSAMPLING_X] != 0),
         bit(header[place::SUBSAMPLING_Y] != 0),

@@ -4,23 +4,16 @@ use loop_filter::record::LoopFilterContext;
 use quantization::record::QuantizationContext;
 use restoration::record::LoopRestorationContext;
 use segmentation::record::SegmentationContext;
-use sequence::record::SequenceHeaderObu;
+use sequence::record::*;
 ghost use mathlib.Core.Path.{_≡_};
-ghost use Rattle.contexts.specs.Contexts.{counted, quantization-context, segmentation-context, loop-filter-context, cdef-context, lr-context};
-
-// The planes that a count stands for.
-fn counted(num_planes: u32) -> u32
-    ensures { λ r. ⌜ r ≡ counted «num_planes» ⌝ }
-{
-    if num_planes == 1 { 1 } else { 3 }
-}
+ghost use Rattle.contexts.specs.Contexts.{quantization-context, segmentation-context, loop-filter-context, cdef-context, lr-context};
 
 pub fn quantization_context(header: SequenceHeaderObu) -> QuantizationContext
     ensures { λ r. ⌜ r ≡ quantization-context header ⌝ }
 {
     let color = header.color_config;
     QuantizationContext {
-        planes: counted(color.num_planes),
+        planes: plane_count(color.num_planes == 1),
         separate_uv_delta_q: color.separate_uv_delta_q,
     }
 }
@@ -42,7 +35,7 @@ pub fn loop_filter_context(
     LoopFilterContext {
         coded_lossless,
         allow_intrabc,
-        planes: counted(header.color_config.num_planes),
+        planes: plane_count(header.color_config.num_planes == 1),
     }
 }
 
@@ -57,7 +50,7 @@ pub fn cdef_context(
         coded_lossless,
         allow_intrabc,
         enable_cdef: header.enable_cdef,
-        planes: counted(header.color_config.num_planes),
+        planes: plane_count(header.color_config.num_planes == 1),
     }
 }
 
@@ -73,7 +66,7 @@ pub fn lr_context(
         all_lossless,
         allow_intrabc,
         enable_restoration: header.enable_restoration,
-        planes: counted(color.num_planes),
+        planes: plane_count(color.num_planes == 1),
         use_128x128_superblock: header.use_128x128_superblock,
         subsampling_x: color.subsampling_x,
         subsampling_y: color.subsampling_y,

@@ -3,4 +3,4 @@ use Rattle.contexts.proofs.of_record.quantization_context.Statement.{st
 use Rattle.contexts.proofs.of_record.quantization_context.Tie as tie
 
 pub quantization-context-spec : {M : Type 1} → statement M
-quantization-context-spec = tie.close (tie.spec (λ c κs. search needs) (λ c. rw (c .counted .ensures)))
+quantization-context-spec = tie.close (tie.spec (λ c κs. search needs) (λ c. rw (c .plane-count .ensures)))
