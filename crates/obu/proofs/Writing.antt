@@ -2,7 +2,7 @@
 -- the slice and only counts, the second over the slice.
 use mathlib.Core.Path.{_≡_, refl, sym, ap, _∙_}
 use mathlib.Core.List.{List, [], _∷_, _++_}
-use mathlib.Core.Bool.{Bool, true, false, cond}
+use mathlib.Core.Bool.{cond}
 use Prim.Native.Nat.{ℕ, _+_, _≤_, _<_}
 use native.Mathlib.Omega.{arith}
 use borrow.Author.Tests.{lt-ltb, le-ltb}
@@ -15,7 +15,7 @@ use Rattle.bits.specs.declared.answer.Refusal.{Refusal}
 use Rattle.bits.specs.declared.answer.Refusal.the-variants.{Short, Long}
 use Rattle.bits.specs.declared.answer.Step.{Step}
 use Rattle.bits.specs.declared.answer.Step.the-variants.{Next}
-use Rattle.bits.proofs.Laws.{join-inv}
+use Rattle.bits.proofs.Laws.{cond-ap, join-inv}
 use Rattle.bits.proofs.Walking.{answer, bytes, kept, bounded}
 use Rattle.bits.proofs.Storing.{put-beyond}
 use Rattle.bits.specs.declared.answer.Answer.{Answer}
@@ -57,12 +57,11 @@ module _ (w : Walk) (xs : List ℕ) (l : length xs ≤ 65536) (bs : Bits) (e : r
 -- A record is written where its walk came to its end
 pub done-is-ended : {w : Walk} {xs ys : List ℕ} {a : Answer} {n : ℕ} → Writes w xs a ys → a ≡ Done n → run w .end ≡ done
 unfolding written
-done-is-ended {w} {xs} {a} {n} (writes p q) e = go (run w .end) refl (ltb 65536 (length xs)) refl
+done-is-ended {w} {xs} {a} {n} (writes p q) e = go (run w .end) refl
   where
-    go : (k : End) → run w .end ≡ k → (t : Bool) → ltb 65536 (length xs) ≡ t → run w .end ≡ done
-    go done h t u = h
-    go (refused r) h true u = let k : Done n ≡ Refused Long = sym e ∙ rw (h, u) at p in let z : _≡_ {A = ℕ} 0 1 = cc in absurd (omega arith)
-    go (refused r) h false u = let k : Done n ≡ Refused r = sym e ∙ rw (h, u) at p in let z : _≡_ {A = ℕ} 0 1 = cc in absurd (omega arith)
+    go : (k : End) → run w .end ≡ k → run w .end ≡ done
+    go done h = h
+    go (refused r) h = let t = ltb 65536 (length xs) in let k : Done n ≡ Refused (cond t Long r) = sym e ∙ rw h at p ∙ cond-ap Refused t Long r in let z : _≡_ {A = ℕ} 0 1 = cc in absurd (omega arith)
 
 -- A walk that is done wrote its bits
 pub wrote-all : (o : Out) → o .end ≡ done → o ≡ wrote (o .bits)
