@@ -26,7 +26,7 @@ damping-there v h = go (ltb v 3) refl h
     go true e h = absurd (omega arith)
     go false e h = omega (arith, ltb-false v 3 e)
 
-damping-law : Lawful loose damping
+pub damping-law : Lawful loose damping
 unfolding damping
 damping-law = fieldAs-law 2 damping-out damping-in (λ _. Unfit cdef-damping 0 0) (λ v h. damping-back v) damping-there
 
@@ -46,7 +46,7 @@ not-three v h = go (eqb v 3) refl
     go true e = let q : v ≡ 3 = eqb-true v 3 e in let l : swapped 3 < 4 = rw q at h in absurd (omega arith)
     go false e = refl
 
-secondary-law : (e i : ℕ) → Lawful loose (secondary e i)
+pub secondary-law : (e i : ℕ) → Lawful loose (secondary e i)
 unfolding secondary
 secondary-law e i = checked-law (λ v. not (eqb v 3)) (Inconsistent e i)
     (fieldAs-law 2 swapped swapped (λ _. Unfit e i 0) (λ v h. swapped-back v) (λ v h. swapped-back v))
@@ -85,7 +85,7 @@ off-law : Lawful loose off-table
 unfolding off-table
 off-law = search (codec-laws, no-strengths-law) depth 12
 
-strengths-back : (ss : List Strengths) → zip (0, 0) (0, 0) (zip 0 0 (firsts (firsts ss)) (seconds (firsts ss))) (zip 0 0 (firsts (seconds ss)) (seconds (seconds ss))) ≡ ss
+pub strengths-back : (ss : List Strengths) → zip (0, 0) (0, 0) (zip 0 0 (firsts (firsts ss)) (seconds (firsts ss))) (zip 0 0 (firsts (seconds ss)) (seconds (seconds ss))) ≡ ss
 strengths-back ss = rw (zip-back 0 0 (firsts ss), zip-back 0 0 (seconds ss)) (zip-back (0, 0) (0, 0) ss)
 
 cdef-on-law : (planes : ℕ) → Lawful loose (cdef-on planes)

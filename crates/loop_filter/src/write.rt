@@ -18,7 +18,7 @@ ghost use Rattle.loop_filter.specs.LoopFilter.{chroma-coded, chroma-leve
 // The deltas of the references where none are coded: intra, LAST, LAST2, LAST3, GOLDEN, BWDREF, ALTREF2, ALTREF.
 const DEFAULT_DELTAS: [i32; 8] = [1, 0, 0, 0, -1, 0, -1, -1];
 
-fn chroma_coded(planes: u32, a: u32, b: u32) -> bool
+pub fn chroma_coded(planes: u32, a: u32, b: u32) -> bool
     ensures { λ r. ⌜ r ≡ chroma-coded planes a b ⌝ }
 {
     if planes == 1 {

@@ -40,11 +40,12 @@ stored false done bs place xs {n} h = go (ltb (length xs * 8) (place + length bs
     go false h = refl
 
 -- What is done was walked to its end and had room.
-record Room (w : Walk) (place : ℕ) (xs ys : List ℕ) (n : ℕ) : Type 0 where
-  walked : run w ≡ wrote (run w .bits)
-  place-is : n ≡ place + length (run w .bits)
-  inside : place + length (run w .bits) ≤ end xs
-  content : ys ≡ put xs place (run w .bits)
+pub record Room (w : Walk) (place : ℕ) (xs ys : List ℕ) (n : ℕ) : Type 0 where
+  pub few : length xs ≤ 65536
+  pub walked : run w ≡ wrote (run w .bits)
+  pub place-is : n ≡ place + length (run w .bits)
+  pub inside : place + length (run w .bits) ≤ end xs
+  pub content : ys ≡ put xs place (run w .bits)
 
 fitted : (t : Bool) (k : End) (bs : Bits) (place : ℕ) (xs : List ℕ) {n : ℕ} → Done n ≡ cond t (keep Long xs) (afterWalk k bs place xs) .answer
     → (t ≡ false) × (k ≡ done) × (n ≡ place + length bs) × (place + length bs ≤ length xs * 8)
@@ -57,12 +58,13 @@ fitted false done bs place xs {n} h = go (ltb (length xs * 8) (place + length bs
     go true e h = let z : _≡_ {A = ℕ} 0 1 = cc in absurd (omega arith)
     go false e h = (refl, refl, (cc), ltb-false (length xs * 8) (place + length bs) e)
 
-room : (w : Walk) (place : ℕ) (xs ys : List ℕ) (n : ℕ) → Writes w place xs (Done n) ys → Room w place xs ys n
+pub room : (w : Walk) (place : ℕ) (xs ys : List ℕ) (n : ℕ) → Writes w place xs (Done n) ys → Room w place xs ys n
 unfolding written
 room w place xs ys n (writes a b) =
     let r = fitted (ltb 65536 (length xs)) (run w .end) (run w .bits) place xs a in
     let l = ltb-false 65536 (length xs) (r .0) in
     record {
+      few = l;
       walked = λ i. record { bits = run w .bits; end = r .1 i };
       place-is = r .2;
       inside = omega (arith, r .3, end-is xs);

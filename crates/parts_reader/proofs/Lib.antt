@@ -1,3 +1,9 @@
 pub mod Telling
 pub mod Storing
+pub mod Looping
+pub mod Packing
 pub mod Deltas
+pub mod Refusing
+pub mod Again
+pub mod DeltasAgain
+pub mod RoundTrip

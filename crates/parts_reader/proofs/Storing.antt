@@ -12,7 +12,7 @@ use borrow.Author.Tests.{ltb-true}
 use mir.Syntax.{w32}
 use mir.Val.{SFits, toZ, ofZ, boolByte}
 use mir.Facts.{toZ-ofZ}
-use Rattle.bits.specs.Codec.{Codec, f, _▷_}
+use Rattle.bits.specs.Codec.{Codec, f, choose, _▷_}
 use Rattle.bits.specs.declared.answer.Cursor.{Cursor}
 use Rattle.bits.specs.declared.answer.Step.{Step}
 use Rattle.bits.specs.declared.answer.Step.the-variants.{Next}
@@ -48,7 +48,11 @@ pub by-signed : (e : ℕ) (x : ℤ) → Fixed (inferredSigned e x) x
 unfolding inferredSigned
 by-signed e x = fixed (λ bs. refl)
 
+-- a test that a function made
+pub by-test : {A M : Type 0} {l : Layout M A} (a b : Bool) (t u : Codec A) {xs : List ℕ} {p : Cursor} {s : Step} {m z : M} → a ≡ b → Laid l (choose a t u) xs p s m z → Laid l (choose b t u) xs p s m z
+by-test a b t u e g = rw e at g
+
 -- A function of up to four steps that reads a part: `search part-fillings depth 14`; the same at a return with a step's refusal.
-pub ruleset part-fillings = (fillings, onward-bit, onward-number)
+pub ruleset part-fillings = (fillings, onward-bit, onward-number, by-test)
 
 pub ruleset part-halts = (part-fillings, halts)

@@ -54,7 +54,7 @@ module _ (xs : List ℕ) (place : ℕ) where
       go false true h = let z : Ends ≡ y = cc in ap refused z
       go false false h = let z : _≡_ {A = ℕ} 0 1 = cc in absurd (omega arith)
 
-  inner : {A : Type 0} (t : Codec A) → length xs ≤ 65536 → place ≤ length xs * 8 → read-part t place xs ≡ ended xs (t .dec (from xs place))
+  pub inner : {A : Type 0} (t : Codec A) → length xs ≤ 65536 → place ≤ length xs * 8 → read-part t place xs ≡ ended xs (t .dec (from xs place))
   unfolding read-part
   inner t h l = rw (le-ltb 65536 (length xs) h, le-ltb (length xs * 8) place l) refl
 
@@ -116,3 +116,7 @@ module _ {s : Step} where
   answer-done e h = rw e (ap Done (omega arith))
 
 pub ruleset answering = (answer-no, answer-most, answer-done)
+
+-- a table that goes by a context, which a function found
+pub by-context : {A K M : Type 0} (l : Layout M A) (c : K → Codec A) {k k′ : K} {place : ℕ} {xs : List ℕ} {m n : M} {r : Answer} → k ≡ k′ → Tells l (c k) place xs m r n → Tells l (c k′) place xs m r n
+by-context l c {place = place} {xs} {m} {n} {r} e t = subst (λ k. Tells l (c k) place xs m r n) e t

@@ -5,12 +5,13 @@ use parts_reader::delta::delta;
 use parts_reader::place::*;
 use quantization::record::QuantizationContext;
 use quantization_numbers::place;
+use quantization_numbers::record::quantization_context;
 ghost use lib.ListN.{replicate};
 ghost use lib.IntN.{pos};
 ghost use Rattle.fill.specs.Fills.{Fills, whole};
 ghost use Rattle.parts_reader.specs.Reading.{Tells};
 ghost use Rattle.quantization.specs.Quantization.{diff-uv, v-coded, v-deltas, uv-deltas, chroma, matrices, qmatrix, quantization-params};
-ghost use Rattle.quantization_reader.specs.Layout.{v-place, uv-place, chroma-place, matrices-place, qmatrix-place, quantization-place};
+ghost use Rattle.quantization_reader.specs.Layout.{v-place, uv-place, chroma-place, matrices-place, qmatrix-place, quantization-place, quantization-by};
 
 fn diff_uv(s: &[u8], c: Cursor, separate: bool, diff: &mut bool) -> Step
     ensures { λ r. ⌜ Fills whole (diff-uv separate .dec) (now (s .entry)) c r (now (diff .entry)) (now (diff .exit)) ⌝ }
@@ -158,6 +159,14 @@ pub fn fill_quantization_params(
     };
     *n = m;
     answer(t)
+}
+
+// The same, by the context that stands in the numbers.
+pub fn read_quantization_numbers(input: &[u8], place: u32, n: &mut [i32; 13]) -> Answer
+    ensures { λ r. ⌜ Tells quantization-place (quantization-by (now (n .entry))) place (now (input .entry)) (now (n .entry)) r (now (n .exit)) ⌝ }
+{
+    let context = quantization_context(n);
+    fill_quantization_params(input, place, context, n)
 }
 
 // The part from the bit `place` of `input` on; where it is refused, all numbers are 0. (The context's places are 0 in either case.)

@@ -28,7 +28,7 @@ not-zero v h = go (eqb v 0) refl
 large-there : (v : ℕ) → large-out v < 2 → large-in (large-out v) ≡ v
 large-there v h = rw (not-zero v h) (omega (arith, eqb-false v 0 (not-zero v h)))
 
-large-law : Lawful loose large-shift
+pub large-law : Lawful loose large-shift
 unfolding large-shift
 large-law = checked-law (λ v. not (eqb v 0)) (Inconsistent lr-unit-shift 0)
     (fieldAs-law 1 large-out large-in (λ _. Unfit lr-unit-shift 0 0) (λ v h. large-back v) large-there)
@@ -46,7 +46,7 @@ small-coded : (b : Bool) (x : ℕ) → cond b (cond b x 0 + 1) 0 ≡ cond b (x +
 small-coded true x = refl
 small-coded false x = refl
 
-bit-law : Lawful loose (fieldAs 1 (λ v. v) (λ v. v) (λ _. Unfit lr-unit-shift 0 0))
+pub bit-law : Lawful loose (fieldAs 1 (λ v. v) (λ v. v) (λ _. Unfit lr-unit-shift 0 0))
 bit-law = fieldAs-law 1 (λ v. v) (λ v. v) (λ _. Unfit lr-unit-shift 0 0) (λ v h. refl) (λ v h. refl)
 
 small-law : Lawful loose small-shift

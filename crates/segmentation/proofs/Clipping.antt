@@ -1,48 +1,50 @@
--- Clipping, as the code compares machine words, and its laws.
+-- Clipping, as the code compares machine words of any width, and its laws.
 use mathlib.Core.Path.{_≡_, refl}
 use mathlib.Core.Bool.{Bool, true, false, cond}
-use Prim.Native.Nat.{ℕ, zero, suc, _<_, _≤_}
+use Prim.Native.Nat.{ℕ, zero, suc, _<_, _≤_, _^_}
 use native.Mathlib.Omega.{arith}
 use lib.IntN.{ℤ, pos, negsuc, negℤ, natAbs, _-ℤ_, +ℤ-idl}
 use lib.Signed.{mag, ltZ, _≤ℤ_}
-use mir.Syntax.{w16}
-use mir.Val.{SFits, toZ, ofZ}
+use mir.Syntax.{Width, w16}
+use mir.Val.{SFits, toZ, ofZ, hbits}
+use mir.Facts.{toZ-ofZ}
 use borrow.Author.Tests.{le-ltb}
 use Rattle.parts.specs.Codes.{clip}
 use Rattle.parts.proofs.Signs.{word}
 
-module _ (low high x : ℤ) (f : SFits w16 low) (g : SFits w16 high) (h : SFits w16 x) where
-  pub clip-low : ltZ (toZ w16 (ofZ w16 x)) (toZ w16 (ofZ w16 low)) ≡ true → toZ w16 (ofZ w16 low) ≡ clip low high x
+module _ (w : Width) (low high x : ℤ) (f : SFits w low) (g : SFits w high) (h : SFits w x) where
+  pub clip-low : ltZ (toZ w (ofZ w x)) (toZ w (ofZ w low)) ≡ true → toZ w (ofZ w low) ≡ clip low high x
   unfolding clip
-  clip-low e = rw (word w16 low (f .sfits), rw (word w16 x (h .sfits), word w16 low (f .sfits)) at e)
+  clip-low e = rw (toZ-ofZ f, rw (toZ-ofZ h, toZ-ofZ f) at e)
 
-  pub clip-high : ltZ (toZ w16 (ofZ w16 x)) (toZ w16 (ofZ w16 low)) ≡ false → ltZ (toZ w16 (ofZ w16 high)) (toZ w16 (ofZ w16 x)) ≡ true → toZ w16 (ofZ w16 high) ≡ clip low high x
+  pub clip-high : ltZ (toZ w (ofZ w x)) (toZ w (ofZ w low)) ≡ false → ltZ (toZ w (ofZ w high)) (toZ w (ofZ w x)) ≡ true → toZ w (ofZ w high) ≡ clip low high x
   unfolding clip
-  clip-high e k = rw (word w16 high (g .sfits), rw (word w16 x (h .sfits), word w16 low (f .sfits)) at e, rw (word w16 high (g .sfits), word w16 x (h .sfits)) at k)
+  clip-high e k = rw (toZ-ofZ g, rw (toZ-ofZ h, toZ-ofZ f) at e, rw (toZ-ofZ g, toZ-ofZ h) at k)
 
-  pub clip-kept : ltZ (toZ w16 (ofZ w16 x)) (toZ w16 (ofZ w16 low)) ≡ false → ltZ (toZ w16 (ofZ w16 high)) (toZ w16 (ofZ w16 x)) ≡ false → toZ w16 (ofZ w16 x) ≡ clip low high x
+  pub clip-kept : ltZ (toZ w (ofZ w x)) (toZ w (ofZ w low)) ≡ false → ltZ (toZ w (ofZ w high)) (toZ w (ofZ w x)) ≡ false → toZ w (ofZ w x) ≡ clip low high x
   unfolding clip
-  clip-kept e k = rw (word w16 x (h .sfits), rw (word w16 x (h .sfits), word w16 low (f .sfits)) at e, rw (word w16 high (g .sfits), word w16 x (h .sfits)) at k)
+  clip-kept e k = rw (toZ-ofZ h, rw (toZ-ofZ h, toZ-ofZ f) at e, rw (toZ-ofZ g, toZ-ofZ h) at k)
 
 -- the negated limit
-minus : (z : ℤ) → pos 0 -ℤ z ≡ negℤ z
-minus z = +ℤ-idl (negℤ z)
-
 mag-neg : (z : ℤ) (n : ℕ) → pos 0 ≤ℤ z → mag z < n → mag (negℤ z) < n
 mag-neg (pos zero) n p h = h
 mag-neg (pos (suc k)) n p h = omega arith
 mag-neg (negsuc k) n p h = absurd (p .le)
 
+module _ (w : Width) (limit : ℤ) (p : pos 0 ≤ℤ limit) (f : SFits w limit) where
+  neg-held : SFits w (negℤ limit)
+  neg-held = record { sfits = mag-neg limit (2 ^ hbits w) p (f .sfits) }
+
+  pub neg-fits : SFits w (pos 0 -ℤ toZ w (ofZ w limit))
+  neg-fits = rw (toZ-ofZ f, +ℤ-idl (negℤ limit)) neg-held
+
+  pub neg-is : toZ w (ofZ w (pos 0 -ℤ toZ w (ofZ w limit))) ≡ negℤ limit
+  neg-is = rw (toZ-ofZ f, +ℤ-idl (negℤ limit)) (toZ-ofZ neg-held)
+
 module _ (limit : ℤ) (p : pos 0 ≤ℤ limit) (f : SFits w16 limit) where
-  pub neg-fits : SFits w16 (pos 0 -ℤ toZ w16 (ofZ w16 limit))
-  neg-fits = rw (word w16 limit (f .sfits), minus limit) (record { sfits = mag-neg limit 32768 p (f .sfits) })
-
-  neg-is : toZ w16 (ofZ w16 (pos 0 -ℤ toZ w16 (ofZ w16 limit))) ≡ negℤ limit
-  neg-is = rw (word w16 limit (f .sfits), minus limit) (word w16 (negℤ limit) (mag-neg limit 32768 p (f .sfits)))
-
   -- what the code clips between
   pub clip-signed : (v r : ℤ) → SFits w16 v → r ≡ clip (toZ w16 (ofZ w16 (pos 0 -ℤ toZ w16 (ofZ w16 limit)))) (toZ w16 (ofZ w16 limit)) (toZ w16 (ofZ w16 v)) → r ≡ clip (negℤ limit) limit v
-  clip-signed v r g e = rw (neg-is, word w16 limit (f .sfits), word w16 v (g .sfits)) at e
+  clip-signed v r g e = rw (neg-is w16 limit p f, word w16 limit (f .sfits), word w16 v (g .sfits)) at e
 
   pub clip-unsigned : (v r : ℤ) → SFits w16 v → r ≡ clip (pos 0) (toZ w16 (ofZ w16 limit)) (toZ w16 (ofZ w16 v)) → r ≡ clip (pos 0) limit v
   clip-unsigned v r g e = rw (word w16 limit (f .sfits), word w16 v (g .sfits)) at e

@@ -1,5 +1,5 @@
 // 5.9.14, the segmentation parameters.
-mod feature; // feature.rt: the bits and the limit of each feature
+pub mod feature; // feature.rt: the bits and the limit of each feature
 mod packed; // packed.rt: one feature, as one field where it fits
 pub mod record; // record.rt: the record, and what it goes by
 pub mod write; // write.rt: 5.9.14, written

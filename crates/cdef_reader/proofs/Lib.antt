@@ -1,0 +1,2 @@
+pub mod Strengths
+pub mod RoundTrip
