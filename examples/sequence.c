@@ -1,5 +1,5 @@
-/* Writes the sequence header of a 1920 by 1080 video, reads it back, writes a part of a frame header
-   that goes by it, and shows a refusal. */
+/* Writes the sequence header of a 1920 by 1080 video, reads it back, does the same with a part of a
+   frame header that goes by it, and shows a refusal. */
 #include <stdio.h>
 
 #include "friscurella.h"
@@ -13,6 +13,7 @@ static int refused(const struct friscurella_answer *answer) {
 
 int main(void) {
   static struct friscurella_quantization_params quantization; /* all 0 */
+  struct friscurella_quantization_params part;
   struct friscurella_sequence_header header, back;
   struct friscurella_answer answer;
   uint8_t buffer[64];
@@ -36,6 +37,12 @@ int main(void) {
   friscurella_write_quantization_params(&quantization, 0, buffer, sizeof buffer, &answer);
   if (answer.number != FRISCURELLA_DONE) return refused(&answer);
   printf("quantization of %d planes: %u bits\n", (int)quantization.context.planes,
+         (unsigned)answer.first);
+
+  part.context = quantization.context; /* what a part goes by is given */
+  friscurella_read_quantization_params(buffer, sizeof buffer, 0, &part, &answer);
+  if (answer.number != FRISCURELLA_DONE) return refused(&answer);
+  printf("read: base_q_idx %d, and the next part begins at bit %u\n", (int)part.base_q_idx,
          (unsigned)answer.first);
 
   /* The tier is coded at levels over 7 only. */

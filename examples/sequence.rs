@@ -1,8 +1,9 @@
-//! Writes the sequence header of a 1920 by 1080 video, reads it back, writes a part of a frame
-//! header that goes by it, and shows a refusal.
+//! Writes the sequence header of a 1920 by 1080 video, reads it back, does the same with a part of
+//! a frame header that goes by it, and shows a refusal.
 use friscurella::{
-    quantization_context, read_sequence_header, write_quantization_params, write_sequence_header,
-    QuantizationParams, Refusal, SequenceHeaderObu,
+    quantization_context, read_quantization_params, read_sequence_header,
+    write_quantization_params, write_sequence_header, QuantizationParams, Refusal,
+    SequenceHeaderObu,
 };
 
 fn main() -> Result<(), Refusal> {
@@ -28,6 +29,10 @@ fn main() -> Result<(), Refusal> {
     };
     let end = write_quantization_params(&params, &context, &mut buffer, 0)?;
     println!("quantization of {} planes: {end} bits", context.planes);
+
+    let (part, end) = read_quantization_params(&buffer, 0, &context)?;
+    let base = part.base_q_idx;
+    println!("read: base_q_idx {base}, and the next part begins at bit {end}");
 
     // The tier is coded at levels over 7 only.
     header.operating_points[0].seq_level_idx = 7;

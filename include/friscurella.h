@@ -15,7 +15,7 @@ extern "C" {
 #endif
 
 /* The version of this header: 10000 * major + 100 * minor + patch. */
-#define FRISCURELLA_VERSION 500
+#define FRISCURELLA_VERSION 600
 
 /* The version of the library. A program that finds another than FRISCURELLA_VERSION is linked with
    an archive that this header does not describe. */
@@ -53,7 +53,8 @@ struct friscurella_answer {
 
 /* The numbers, and what first, second and third are. */
 enum {
-  FRISCURELLA_DONE = 0,         /* first: bytes written, or the end bit of a part; 0 of a reader */
+  FRISCURELLA_DONE = 0,         /* first: bytes written, or the end bit of a part; 0 where a
+                                   sequence header was read */
   FRISCURELLA_INCONSISTENT = 1, /* inconsistent element, or a value that the rules forbid:
                                    element, index */
   FRISCURELLA_UNFIT = 2,        /* value does not fit its field: element, index, and the least width
@@ -63,7 +64,8 @@ enum {
                                    num_ticks_per_picture_minus_1 */
   FRISCURELLA_SHORT = 3,        /* buffer too short. first: the least length that is enough, which
                                    may be over FRISCURELLA_SLICE_LIMIT */
-  FRISCURELLA_ENDS = 4,         /* input ends inside header, size or body */
+  FRISCURELLA_ENDS = 4,         /* input ends inside header, size or body, or inside or before a
+                                   part */
   FRISCURELLA_RESERVED = 5,     /* forbidden or reserved bit set */
   FRISCURELLA_SIZE = 6,         /* size field wrong */
   FRISCURELLA_TRAILING = 7,     /* trailing bits wrong */
@@ -364,6 +366,13 @@ struct friscurella_loop_filter_params {
   int32_t loop_filter_mode_deltas[2]; /* the same; 0, 0 where nothing is coded */
 };
 
+/* The deltas before loop_filter_params, which its reader is lent: those of the frame that
+   primary_ref_frame refers to; without one, FRISCURELLA_DEFAULT_REF_DELTAS and 0, 0. */
+struct friscurella_loop_filter_deltas {
+  int32_t loop_filter_ref_deltas[8];
+  int32_t loop_filter_mode_deltas[2];
+};
+
 struct friscurella_cdef_context {
   int32_t coded_lossless; /* CodedLossless */
   int32_t allow_intrabc;  /* of the frame header */
@@ -482,6 +491,35 @@ uint32_t friscurella_read_sequence_header(const uint8_t *input, size_t length,
                                           struct friscurella_sequence_header *record,
                                           struct friscurella_answer *answer);
 
+/* Each reads a part of a frame header from the bit `place` of `input` on; bit 0 is the top bit of
+   input[0]. It goes by record->context, which the caller fills and the call does not change.
+   DONE, end: the part is the bits from `place` to end - 1, and every other number of `record` is
+   the part's. (end = place where nothing is coded.) Flags are 0 or 1, and feature_data is clipped.
+   A field that is not coded holds the value that is said above for that case, and 0 where none is
+   said. (So the features are 0 without segmentation_update_data, where those of the reference
+   stand.) But where the loop filter is coded, a delta whose flag is not set is that of `previous`,
+   and without loop_filter_delta_update all ten are. A set flag may stand before a delta of 0.
+   Anything else: no number of `record` has changed. The reason is the first of: LONG; ENDS, where
+   the bits run out or `place` is beyond the end, also where nothing is coded. There is no other.
+   What the part's writer wrote is read with the same end and the same coded fields. A record that
+   was read is one that the writer accepts, if the deltas of `previous` are -64 to 63. */
+uint32_t friscurella_read_quantization_params(const uint8_t *input, size_t length, uint32_t place,
+                                              struct friscurella_quantization_params *record,
+                                              struct friscurella_answer *answer);
+uint32_t friscurella_read_segmentation_params(const uint8_t *input, size_t length, uint32_t place,
+                                              struct friscurella_segmentation_params *record,
+                                              struct friscurella_answer *answer);
+uint32_t friscurella_read_loop_filter_params(const uint8_t *input, size_t length, uint32_t place,
+                                             const struct friscurella_loop_filter_deltas *previous,
+                                             struct friscurella_loop_filter_params *record,
+                                             struct friscurella_answer *answer);
+uint32_t friscurella_read_cdef_params(const uint8_t *input, size_t length, uint32_t place,
+                                      struct friscurella_cdef_params *record,
+                                      struct friscurella_answer *answer);
+uint32_t friscurella_read_lr_params(const uint8_t *input, size_t length, uint32_t place,
+                                    struct friscurella_lr_params *record,
+                                    struct friscurella_answer *answer);
+
 /* A part of an input: the `length` bytes from input[start] on. */
 struct friscurella_part {
   uint32_t start;
@@ -515,6 +553,7 @@ FRISCURELLA_NUMBERS(segmentation_context, 1);
 FRISCURELLA_NUMBERS(segmentation_params, 133);
 FRISCURELLA_NUMBERS(loop_filter_context, 3);
 FRISCURELLA_NUMBERS(loop_filter_params, 20);
+FRISCURELLA_NUMBERS(loop_filter_deltas, 10);
 FRISCURELLA_NUMBERS(cdef_context, 4);
 FRISCURELLA_NUMBERS(cdef_params, 38);
 FRISCURELLA_NUMBERS(lr_context, 7);

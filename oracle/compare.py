@@ -1,8 +1,10 @@
 #!/usr/bin/env python3
 """Runs the same case lines through the crate, the model of document 01 and, if named, this project's program, and sorts every disagreement with the
-crate into a row of docs/DIFFERENCES.md by the rules of rows.py. One that fits no row fails the run; so does any difference between model and program.
+crate into a row of docs/DIFFERENCES.md by the rules of rows.py. One that fits no row fails the run; so does any difference between model and program. The
+readers of the parts, which the crate does not have, go through model and program, and what is read must be what was written.
 
     oracle/compare.py --crate target/oracle/driver [--release target/oracle/driver-release] [--ours './run replay'] [--seed N] [--scale F] [FILE ..]
+    oracle/compare.py --ours './run replay' [--seed N] [--scale F]      (the readers of the parts alone)
 
 With FILEs their lines are run in place of made ones. A page (.md) has case lines in its code blocks, each followed by the answers that the page gives for
 it ('crate', 'release', 'here'), which are checked too.
@@ -18,6 +20,7 @@ from itertools import islice
 import cases
 import lines as syntax
 import model
+import parts_cases
 import rows
 
 BATCH = 5000
@@ -94,6 +97,26 @@ class Tally:
         return [f"{number} {name}" for number, name in model.ELEMENTS.items() if not self.refused[str(number)]]
 
 
+class Reads:
+    """Counts of the parts' readers by word and kind of case: all, and those that were read."""
+
+    def __init__(self):
+        self.all, self.read = collections.Counter(), collections.Counter()
+
+    def add(self, case, said):
+        for word in syntax.word_of(case.line), "all":
+            self.all[word, case.kind] += 1
+            self.read[word, case.kind] += said.startswith("0 ")
+
+    def table(self):
+        columns = [*syntax.READERS, "all"]
+        out = ["| Parts read, of lines | " + " | ".join(columns) + " |", "|---" * (1 + len(columns)) + "|"]
+        for kind, what in parts_cases.KINDS.items():
+            if self.all["all", kind]:
+                out.append(f"| {what} | " + " | ".join(f"{self.read[word, kind]:,} of {self.all[word, kind]:,}" for word in columns) + " |")
+        return "\n".join(out)
+
+
 def compare(lines, crate, ours=None, release=None, seen=None):
     """Runs the lines; the tally, that of the release build, the complaints. seen, if given, gets each line with our answer, the crate's and the rows."""
     tally, released, wrong, lines = Tally(), Tally(), [], iter(lines)
@@ -118,6 +141,22 @@ def compare(lines, crate, ours=None, release=None, seen=None):
     return tally, released, wrong
 
 
+def compare_readers(cases, ours=None, seen=None):
+    """Runs cases of the parts' readers; the counts, the complaints. seen, if given, gets each case with our answer."""
+    reads, wrong, cases = Reads(), [], iter(cases)
+    while batch := list(islice(cases, BATCH)):
+        said = [model.answer(case.line) for case in batch]
+        for case, a, b in zip(batch, said, run(ours, [case.line for case in batch]) if ours else said):
+            reads.add(case, a)
+            if a != b:
+                wrong.append(f"{case.line}\n    model: {a}\n    ours:  {b}")
+            if case.must not in (None, a):
+                wrong.append(f"{case.line}\n    model:   {a}\n    must be: {case.must}")
+            if seen:
+                seen(case, a)
+    return reads, wrong
+
+
 def parsed(line):
     try:
         return syntax.parse(line)
@@ -126,7 +165,7 @@ def parsed(line):
 
 
 def answer(line, case):
-    return syntax.answer_line(*model.written(*case)) if case else model.answer(line)
+    return model.answered(*case) if case else model.answer(line)
 
 
 def lines_of(path, wrong, commands):
@@ -148,25 +187,34 @@ def lines_of(path, wrong, commands):
 
 def main():
     options = argparse.ArgumentParser()
-    options.add_argument("--crate", required=True)
+    options.add_argument("--crate")
     options.add_argument("--release")
     options.add_argument("--ours")
     options.add_argument("--seed", default="1")
     options.add_argument("--scale", type=float, default=1.0)
     options.add_argument("files", nargs="*")
     o = options.parse_args()
+    if o.files and not o.crate:
+        options.error("the lines of a file need the crate")
     start, wrong = time.time(), []
     lines = [line for path in o.files for line in lines_of(path, wrong, {"crate": o.crate, "release": o.release})]
-    tally, released, more = compare(lines if o.files else cases.make(o.seed, o.scale), o.crate, o.ours, o.release)
-    wrong += more
-    print(tally.table())
-    if not o.files:
-        print("\nElements never refused: " + (", ".join(tally.never()) or "none"))
-    if o.release:
-        print("\nThe release build:\n\n" + released.table())
+    given = [parts_cases.Case("given", line, None) for line in lines if syntax.word_of(line) in syntax.READERS]
+    lines = [line for line in lines if syntax.word_of(line) not in syntax.READERS]
+    reads, wrong_reads = compare_readers(given if o.files else parts_cases.make(o.seed, o.scale), o.ours)
+    wrong += wrong_reads
+    if reads.all:
+        print(reads.table() + "\n")
+    if o.crate:
+        tally, released, more = compare(lines if o.files else cases.make(o.seed, o.scale), o.crate, o.ours, o.release)
+        wrong += more
+        print(tally.table())
+        if not o.files:
+            print("\nElements never refused: " + (", ".join(tally.never()) or "none"))
+        if o.release:
+            print("\nThe release build:\n\n" + released.table())
     for complaint in wrong[:20]:
         print(complaint, file=sys.stderr)
-    print(f"\n{len(wrong)} complaints; {time.time() - start:.0f} s; sides: crate, model{', ' + o.ours if o.ours else ''}")
+    print(f"\n{len(wrong)} complaints; {time.time() - start:.0f} s; sides: {'crate, ' if o.crate else ''}model{', ' + o.ours if o.ours else ''}")
     sys.exit(bool(wrong))
 
 

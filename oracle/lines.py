@@ -30,6 +30,10 @@ FIELDS = {
     "lr": """all_lossless:b allow_intrabc:b enable_restoration:b planes use_128x128_superblock:b subsampling_x:b subsampling_y:b
         frame_restoration_type:u32*3 uses_lr:b uses_chroma_lr:b lr_unit_shift lr_uv_shift""",
 }
+# How many of a part's fields are its context; the record is behind them. The part's reader, a word with an r before it, takes the context alone, and the loop
+# filter's the deltas that were before.
+CONTEXT = {"quant": 2, "seg": 1, "lf": 3, "cdef": 4, "lr": 7}
+BEFORE = {"lf": "previous_ref_deltas:i8*8 previous_mode_deltas:i8*2"}
 # Characters of a line; a longer one is malformed.
 LONGEST = 200000
 # The words whose answer is a whole OBU; the others are parts, at a bit place.
@@ -49,6 +53,9 @@ def field_list(text):
 
 POINT = field_list(POINT)
 FIELDS = {word: field_list(text) for word, text in FIELDS.items()}
+READERS = {"r" + word: word for word in CONTEXT}
+RECORD = {word: FIELDS[word][n:] for word, n in CONTEXT.items()}
+FIELDS |= {reader: FIELDS[word][:CONTEXT[word]] + field_list(BEFORE.get(word, "")) for reader, word in READERS.items()}
 
 
 class Record:
@@ -114,6 +121,10 @@ def words(text):
     return [word for word in text.split(" ") if word]
 
 
+def word_of(line):
+    return (words(line.partition(";")[0]) or [""])[0]
+
+
 def hex_bytes(text):
     if len(text) % 2 or not all(c in "0123456789abcdefABCDEF" for c in text):
         raise Bad
@@ -121,16 +132,17 @@ def hex_bytes(text):
 
 
 def parse(line):
-    """(word, record, buffer, place) of a case line of a writer."""
+    """(word, record, buffer, place) of a case line of a writer; (word, context, input, place) of a part's reader."""
     if len(line) > LONGEST:
         raise Bad
     case, _, rest = line.partition(";")
     word, *texts = words(case) or [""]
     settings = dict(setting.split("=", 1) if "=" in setting else (setting, None) for setting in words(rest))
-    allowed = {"buf"} if word in WHOLE else {"buf", "place"}
+    lent, otherwise = ("in", b"") if word in READERS else ("buf", bytes(420))
+    allowed = {lent} if word in WHOLE else {lent, "place"}
     if word not in FIELDS or len(settings) < len(words(rest)) or None in settings.values() or settings.keys() - allowed:
         raise Bad
-    buffer = hex_bytes(settings["buf"]) if "buf" in settings else bytes(420)
+    data = hex_bytes(settings[lent]) if lent in settings else otherwise
     place = number(settings.get("place", "0"))
     if not 0 <= place < 2**32:
         raise Bad
@@ -138,8 +150,8 @@ def parse(line):
     record = take(numbers, FIELDS[word])
     if next(numbers, None) is not None:
         raise Bad
-    return word, record, buffer, place
+    return word, record, data, place
 
 
-def answer_line(numbers, buffer):
+def answer_line(numbers, buffer=b""):
     return " ".join([*map(str, numbers), buffer.hex().upper()]).rstrip()

@@ -7,8 +7,9 @@ shares no text with either. One function for each section of the standard, in th
 """
 import sys
 
+import parts_reader
 import reader
-from lines import LONGEST, WHOLE, Bad, answer_line, parse, words
+from lines import LONGEST, READERS, WHOLE, Bad, answer_line, parse, words
 
 # Document 01's list of elements.
 ELEMENTS = dict(enumerate("""obu_type temporal_id spatial_id seq_profile reduced_still_picture_header initial_display_delay_present_flag
@@ -542,11 +543,18 @@ def written(word, record, buffer, place):
     return (0, end // 8 if word in WHOLE else end), stored(buffer, place, walk.value, walk.count)
 
 
+def answered(word, record, data, place):
+    """The answer to a case that parse has taken apart."""
+    if word in READERS:
+        return answer_line(parts_reader.read(word, record, data, place))
+    return answer_line(*written(word, record, data, place))
+
+
 def answer(line):
     try:
         if words(line)[:1] in (["read"], ["payload"]):
             return reader.answer(line)
-        return answer_line(*written(*parse(line)))
+        return answered(*parse(line))
     except Bad:
         return "bad"
 

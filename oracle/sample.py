@@ -1,6 +1,7 @@
 #!/usr/bin/env python3
 """Chooses the lines of tests/vectors/oracle.txt and writes them with our answers, once both sides have answered them: for each thing worth showing, the
-shortest line that shows it; and the first records of each word that we write. The lines of the reader, which the crate has no call for, go to read.txt.
+shortest line that shows it; and the first records of each word that we write. The lines of the readers, which the crate has no calls for, go to read.txt and,
+those of the parts, to rparts.txt.
 
     oracle/sample.py --crate target/oracle/driver [--ours './run replay'] [--seed N]
 """
@@ -13,6 +14,7 @@ import cases
 import compare
 import lines
 import model
+import parts_cases
 
 # Fewer consistent records than in the whole run, and more of the others.
 PLAN = {word: (n // 2, once * 2, twice, 60, 60) for word, (n, once, twice, _, _) in cases.PLAN.items()}
@@ -65,6 +67,60 @@ def shows(line, ours, hit):
         yield "row", row, word, row == hit[0], numbers[0] == 0
 
 
+def shows_part(case, ours):
+    """What a case of a part's reader shows: a number of this kind of case, in this context, at this place, with this room; of those that are read, the bits
+    behind the part, the sign of each number, and of the loop filter each delta that stands beside one that does not."""
+    word, context, data, place = lines.parse(case.line)
+    number, *values = map(int, ours.split())
+    room = 8 * len(data) - place
+    yield word, case.kind, number
+    yield word, number, "place", place if place < 16 else "far"
+    for name, v in vars(context).items():
+        if not isinstance(v, list):
+            yield word, number, name, min(v, 9)
+    if number:
+        yield word, number, "room", max(-2, min(room, 40))
+        return
+    end, record = values[0], lines.take(iter(values[1:]), lines.RECORD[lines.READERS[word]])
+    yield word, "room", min(8 * len(data) - end, 9)
+    yield word, "bits", end - place == 0
+    for name, v in vars(record).items():
+        for i, x in enumerate(v if isinstance(v, list) else [v]):
+            yield word, "field", name, i % 8, (x > 0) - (x < 0)
+    if word == "rlf" and record.loop_filter_delta_update:
+        before = context.previous_ref_deltas + context.previous_mode_deltas
+        for i, x in enumerate(record.loop_filter_ref_deltas + record.loop_filter_mode_deltas):
+            yield word, "delta", i, x == before[i]
+
+
+def shortest(best, what, line):
+    """Whether a line is the shortest so far that shows something; then it is kept."""
+    if what in best and len(line) >= len(best[what]):
+        return False
+    best[what] = line
+    return True
+
+
+def choose_reads(made, ours):
+    """{line: our answer} of the parts' readers."""
+    best, answers, drawn = {}, {}, collections.Counter()
+
+    def see(case, said):
+        if len(case.line) > 1500:
+            return
+        kind = lines.word_of(case.line), case.kind
+        drawn[kind] += 1
+        first = [(kind, "drawn", drawn[kind])] if drawn[kind] <= 6 else []
+        if any([shortest(best, what, case.line) for what in [*first, *shows_part(case, said)]]):
+            answers[case.line] = said
+
+    _, wrong = compare.compare_readers(made, ours, see)
+    if wrong:
+        sys.exit("\n".join(wrong[:5]))
+    kept = set(best.values())
+    return {line: said for line, said in answers.items() if line in kept}
+
+
 def choose(made, crate, ours):
     """{line: (our answer, the crate's, rows)}, in the order of the run."""
     best, all_seen, drawn = {}, {}, collections.Counter()
@@ -76,8 +132,7 @@ def choose(made, crate, ours):
         drawn[word] += said[0] == "0"
         first = [(word, "drawn", drawn[word])] if said[0] == "0" and drawn[word] <= 12 else []
         for what in shows_read(line, said) if word in ("read", "payload") else [*first, *shows(line, said, hit)]:
-            if what not in best or len(line) < len(best[what]):
-                best[what] = line
+            if shortest(best, what, line):
                 all_seen[line] = said, theirs, hit
 
     _, _, wrong = compare.compare(made, crate, ours, seen=see)
@@ -102,7 +157,10 @@ def main():
 # Made by oracle/sample.py: case lines that the crate has answered. It says the same as oracle.answers, unless a line before the case names
 # the rows of docs/DIFFERENCES.md that apply and gives the crate's answer.""")
     store("read", reads, "# Made by oracle/sample.py: case lines of the reader and the payload call, which the crate does not have.")
-    print(f"{len(chosen)} lines, {len(reads)} of them for the reader")
+    parts = choose_reads(parts_cases.make(o.seed, 0.1), o.ours)
+    store("rparts", {line: (said, None, []) for line, said in parts.items()}, """\
+# Made by oracle/sample.py: case lines of the readers of the parts, which the crate does not have. Where a part was written, its record says the answer.""")
+    print(f"{len(chosen)} lines, {len(reads)} of them for the reader; {len(parts)} for the readers of the parts")
 
 
 def store(name, chosen, heading):

@@ -8,6 +8,9 @@ import pathlib
 import sys
 
 TESTS = pathlib.Path(__file__).parent
+sys.path.append(str(TESTS / "streams"))
+import parts
+
 LINES = []
 ANSWERS = []
 
@@ -25,10 +28,14 @@ def stored(path):
 
 
 def real(path):
-    """Lines of real streams, each followed by its answer; comments are kept."""
+    """Lines of real streams, each followed by its answer; comments are kept. A part is read back too."""
     left = iter(path.read_text().splitlines())
     for line in left:
-        case(line, next(left) if line and not line.startswith("#") else None)
+        answer = next(left) if line and not line.startswith("#") else None
+        case(line, answer)
+        if answer and path.name == "parts.txt":
+            for reading in parts.readings(line, answer):
+                case(*reading)
 
 
 def zeros(data, size=420):
@@ -49,6 +56,19 @@ def obu(payload, size=420):
     count = len(payload) // 8
     data = packed("00001010" + format(count, "08b") + payload, size)
     return "0 %d %s" % (count + 2, data)
+
+
+def reads(case_of, bits, record, place=0):
+    """A part's reader: the bits at a place, with ones around them; then without the last byte."""
+    bits = "1" * place + bits.replace(" ", "")
+    data = packed(bits + "1" * (-len(bits) % 8), 0)
+    case("%s ;in=%s place=%d" % (case_of, data, place), "0 %d %s" % (len(bits), record))
+    case("%s ;place=%d in=%s" % (case_of, place, data[:-2]), "4 0 0")
+
+
+def segments(flags, features={}):
+    """The numbers of segmentation: four flags, and the features that are enabled, by place, with their values."""
+    return " ".join([flags] + [str(int(i in features)) for i in range(64)] + [str(features.get(i, 0)) for i in range(64)])
 
 
 HEADER = "1 0 1 0 0 "
@@ -198,8 +218,86 @@ case("seq " + still(0, 0, planes=3).replace("0 1 1 0 0 3 0", "0 1 1 1 0 3 0") + 
 case("seq " + hd(planes=1).replace("0 1 1 0 0 1 0", "0 1 1 4 0 1 0") + ";buf=A5", "2 45 0 3 A5")
 case("seq " + hd(planes=1).replace("2 2 2 0 1 1", "2 2 3 0 1 1") + ";buf=A5", "1 41 0 A5")
 
+# The readers of the parts (request 1): cases 10, 11 and 12 of the worked table, and what the standard's tables give.
+for place in range(16):
+    reads("rquant 1 0", "01100100 1 1111111 0", "100 -1 0 0 0 0 0 0 0 0 0", place)
+reads("rquant 1 0", "01100100 1 0000000 0", "100 0 0 0 0 0 0 0 0 0 0")
+for planes in 3, 0, 2, 2**32 - 1:
+    reads("rquant %d 0" % planes, "00000000 0 1 1000000 1 0111111 0", "0 0 0 -64 63 -64 63 0 0 0 0")
+reads("rquant 3 1", "00000000 0 0 1 0000000 1 0000001 0", "0 0 0 0 1 0 1 0 0 0 0")
+reads("rquant 3 1", "11111111 0 1 1 0000001 0 0 1 1111110 1 0001 0010 0011", "255 0 1 1 0 0 -2 1 1 2 3")
+reads("rquant 3 0", "00000000 0 0 0 1 0001 0010", "0 0 0 0 0 0 0 1 1 2 2")
+reads("rquant 1 1", "00000000 0 1 0001 0010 0011", "0 0 0 0 0 0 0 1 1 2 3")
+
+for reference in 7, 0:
+    reads("rseg %d" % reference, "0", segments("0 0 0 0"))
+reads("rseg 7", "1" + "0" * 64, segments("1 1 0 1"))
+for bits, flags in ("0 0", "0 0 0"), ("1 0 0", "1 0 0"), ("1 1 0", "1 1 0"):
+    for reference in 0, 6, 8, 2**32 - 1:
+        reads("rseg %d" % reference, "1" + bits, segments("1 " + flags))
+reads("rseg 0", "1 0 1" + "0" * 63 + "1", segments("1 0 0 1", {63: 0}))
+reads("rseg 0", "1 1 1 1" + "0" * 57 + "1 1111111" + "0" * 6, segments("1 1 1 1", {57: -1}))
+for codes, values in (
+    ("100000000 1000000 1000000 1000000 1000000 000", (-255, -63, -63, -63, -63, 0)),
+    ("100000001 1000001 1000001 1000001 1000001 001", (-255, -63, -63, -63, -63, 1)),
+    ("011111111 0111111 0111111 0111111 0111111 111", (255, 63, 63, 63, 63, 7)),
+):
+    features = "1" + " 1".join(codes.split()) + "1 1"
+    reads("rseg 7", "1" + features + "0" * 56, segments("1 1 0 1", dict(enumerate((*values, 0, 0)))))
+    reads("rseg 7", "1" + "0" * 56 + features, segments("1 1 0 1", dict(enumerate((*values, 0, 0), 56))))
+
+BEFORE = "-128 127 2 -3 4 -5 6 -7 64 -65"
+for lossless, intrabc in (1, 0), (0, 1), (1, 1):
+    reads("rlf %d %d 3 %s" % (lossless, intrabc, BEFORE), "", "0 0 0 0 0 0 0 %s 0 0" % DEFAULT_DELTAS, 8)
+reads("rlf 0 0 3 " + BEFORE, "000000 000000 000 0", "0 0 0 0 0 0 0 " + BEFORE)
+for planes in 3, 0, 2, 2**32 - 1:
+    reads("rlf 0 0 %d %s" % (planes, BEFORE), "000001 000000 000010 000011 101 0", "1 0 2 3 5 0 0 " + BEFORE)
+reads("rlf 0 0 3 " + BEFORE, "000000 000001 111111 000000 101 1 0", "0 1 63 0 5 1 0 " + BEFORE)
+reads("rlf 0 0 1 " + BEFORE, "111111 111111 111 1 0", "63 63 0 0 7 1 0 " + BEFORE)
+reads("rlf 0 0 3 " + BEFORE, "000000 000000 000 1 1" + "0" * 10, "0 0 0 0 0 1 1 " + BEFORE)
+for code, delta in ("0000000", 0), ("1000000", -64), ("0111111", 63):
+    reads("rlf 0 0 3 " + BEFORE, "000000 000000 000 1 1" + (" 1" + code) * 10, "0 0 0 0 0 1 1" + " %d" % delta * 10)
+    for i in range(10):
+        deltas = BEFORE.split()
+        deltas[i] = str(delta)
+        reads("rlf 0 0 3 " + BEFORE, "000000 000000 000 1 1" + "0" * i + "1" + code + "0" * (9 - i), "0 0 0 0 0 1 1 " + " ".join(deltas))
+
+reads("rcdef 0 0 1 1", "00 00 0001 11", "0 3 1 0 0 0 0 0 0 0 4 0 0 0 0 0 0 0" + " 0" * 16)
+for context in "1 0 1 3", "0 1 1 3", "0 0 0 3", "1 1 0 1":
+    reads("rcdef " + context, "", "0 3" + " 0" * 32, 8)
+for planes in 3, 0, 2, 2**32 - 1:
+    reads("rcdef 0 0 1 %d" % planes, "11 01 0001 01 0010 10 0011 11 0100 00", "1 6 1 3 0 0 0 0 0 0 1 4 0 0 0 0 0 0 2 4 0 0 0 0 0 0 2 0 0 0 0 0 0 0")
+reads("rcdef 0 0 1 3", "01 11" + " 1111 11 0000 00" * 8, "3 4" + " 15" * 8 + " 4" * 8 + " 0" * 16)
+reads("rcdef 0 0 1 1", "10 10" + " 1000 10" * 4, "2 5 8 8 8 8 0 0 0 0 2 2 2 2 0 0 0 0" + " 0" * 16)
+
+for shift, bits in (0, "0"), (1, "10"), (2, "11"):
+    reads("rlr 0 0 1 1 0 1 1", "10" + bits, "2 0 0 1 0 %d 0" % shift)
+for shift, bits in (1, "0"), (2, "1"):
+    reads("rlr 0 0 1 1 1 1 1", "10" + bits, "2 0 0 1 0 %d 0" % shift)
+    for planes in 3, 0, 2, 2**32 - 1:
+        reads("rlr 0 0 1 %d 1 1 1" % planes, "00 00 01 %s 1" % bits, "0 0 1 1 1 %d 1" % shift)
+reads("rlr 0 0 1 3 0 1 1", "00 11 00 11 0", "0 3 0 1 1 2 0")
+for sampling in "0 0", "1 0", "0 1":
+    reads("rlr 0 0 1 3 0 " + sampling, "01 10 11 10", "1 2 3 1 1 1 0")
+reads("rlr 0 0 1 3 0 1 1", "11 00 00 0", "3 0 0 1 0 0 0")
+for planes, bits in (3, "00 00 00"), (1, "00"):
+    reads("rlr 0 0 1 %d 0 1 1" % planes, bits, "0 0 0 0 0 0 0")
+for context in "1 0 1 3", "0 1 1 3", "0 0 0 3", "1 1 0 1":
+    reads("rlr %s 0 1 1" % context, "", "0 0 0 0 0 0 0", 8)
+
+# Of a part without bits, a place beyond the input; of one with bits, also its end.
+for context in "rlf 1 0 3 " + BEFORE, "rcdef 0 0 0 3", "rlr 1 0 1 3 0 1 1":
+    for settings in "place=1", "in= place=1", "in=FF place=9", "place=4294967295 in=FF", "place=2147483648":
+        case(context + ";" + settings, "4 0 0")
+for context in "rquant 1 0", "rseg 7", "rlf 0 0 3 " + BEFORE, "rcdef 0 0 1 3", "rlr 0 0 1 3 0 1 1":
+    for settings in "", ";", ";in=", ";in=00 place=8", ";place=4294967295 in=00":
+        case(context + settings, "4 0 0")
+case("rquant 1 0;in=64ff00", "0 17 100 -1 0 0 0 0 0 0 0 0 0")
+case("rlr 0 0 0 3 0 1 1", "0 0 0 0 0 0 0 0 0")
+case("  rlr  00 -0 0 3 -7 999999999999999999 1 ;in= place=00  ", "0 0 0 0 0 0 0 0 0")
+
 # What the crate, the model of document 01 and real streams say.
-for name in "oracle", "read", "bad":
+for name in "oracle", "read", "rparts", "bad":
     stored(TESTS / "vectors" / name)
 for name in "seq.txt", "parts.txt":
     real(TESTS / "streams" / name)
@@ -221,6 +319,12 @@ MALFORMED = [
     ["td 2 0 1 0 0;buf=ABC", "td 2 0 1 0 0;buf=0G", "td 2 0 1 0 0;buf", "td 2 0 1 0 0;len=1", "td 2 0 1 0 0 buf=00"],
     ["td 2 0 1 0 0;;buf=00", "td 2 0 1 0 0;buf=00 buf=00", "td 2 0 1 0 0;place=0", quant(0, 0) + ";place=0 buf=00 place=0", quant(0, 0) + ";place=-1"],
     ["read 0", "read 0A 04", "read 0A;buf=00", "read ;", "payload xx", "payload 0A;place=0"],
+    ["rquant 1;in=00", "rquant 1 0 0;in=00", "rquant 4294967296 0;in=00", "rquant 1 0;buf=00", "rquant 1 0;in=0", "rquant 1 0;in=00 in=00"],
+    ["rseg;in=00", "rseg 7 7;in=00", "rseg -1;in=00", "rseg 7 00", "rseg 7;in=00 buf=00", "rseg 7;in=0G", quant(0, 0) + ";in=00"],
+    ["rlf 0 0 3;in=00", "rlf 1 0 3 " + BEFORE + " 0", "rlf 1 0 3 " + BEFORE[:-4], "rlf 1 0 3 " + BEFORE.replace("127", "128")],
+    ["rlf 1 0 3 " + BEFORE.replace("-128", "-129"), "rlf 1 0 3 " + BEFORE.replace("-65", "-129"), "rlf 1 0 -1 " + BEFORE, "rlf;in=00"],
+    ["rcdef 0 0 0;in=00", "rcdef 0 0 0 3 3;in=00", "rcdef 0 0 0 3;place=4294967296", "rcdef 0 0 0 3;place=-1", "rcdef 0 0 0 3;in", "rtd 2 0 1 0 0"],
+    ["rlr 1 0 1 3 0 1", "rlr 1 0 1 3 0 1 1 1", "rlr 1 0 1 3 0 1 1;size=1", "rlr 1 0 1 3 0 1 1000000000000000000", "rlr 1 0 1 4294967296 0 1 1"],
     ["td 2 0 1 0 0\r", "\r", b"td 2 0 1\x00 0 0", b"\x00", b"td 2 0 1 0 0;buf=\x00\x00", b"\xff\xfe"],
 ]
 for lines in MALFORMED:
@@ -228,10 +332,11 @@ for lines in MALFORMED:
         case(line, "bad")
     case(*GOOD)
 
-# A line of 200,000 characters, whose buffer is over 65,536 bytes; a line of 200,001.
+# A line of 200,000 characters, whose buffer is over 65,536 bytes; a line of 200,001; an input over 65,536 bytes, and a place beyond it.
 LONG = "td 2 0 1 0 0 ;buf=" + "A5" * 65537
 case(LONG.ljust(200000), "8 0 0 " + "A5" * 65537)
 case("td 2 0 1 0 0".ljust(200001), "bad")
+case("rlr 1 0 1 3 0 1 1 ;place=4294967295 in=" + "A5" * 65537, "8 0 0")
 case(*GOOD)
 # The last line has no line end.
 case("td 2 0 1 0 0;buf=5555", "0 2 1200")

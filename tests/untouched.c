@@ -18,14 +18,16 @@ static bool intact(const void *memory, size_t size) {
   return true;
 }
 
-/* Whether a call answered `number` and left what was lent to it. */
+/* Whether a call answered `number`, with no more values than it carries, and kept what was lent. */
 static void judge(const char *call, uint32_t returned, const struct friscurella_answer *answer,
-                  uint32_t number, const void *memory, size_t size) {
-  bool kept = intact(memory, size);
-  bool told = answer->third == 0 || number == FRISCURELLA_UNFIT; /* widths.c has that one */
-  if (returned == number && answer->number == number && told && kept) return;
-  printf("%s: returned %u, answered %u with a third value %u, where %u is expected\n", call,
-         (unsigned)returned, (unsigned)answer->number, (unsigned)answer->third, (unsigned)number);
+                  uint32_t number, bool kept) {
+  const struct friscurella_answer *a = answer;
+  bool told = a->third == 0 || number == FRISCURELLA_UNFIT; /* widths.c has that one */
+  bool bare = (a->first == 0 && a->second == 0) || number < FRISCURELLA_ENDS;
+  if (returned == number && a->number == number && told && bare && kept) return;
+  printf("%s: returned %u, answered %u %u %u %u, where %u is expected\n", call,
+         (unsigned)returned, (unsigned)a->number, (unsigned)a->first, (unsigned)a->second,
+         (unsigned)a->third, (unsigned)number);
   if (!kept) printf("%s: what was lent has changed\n", call);
   failures++;
 }
@@ -36,7 +38,7 @@ static void reads(const uint8_t *input, size_t length, uint32_t number) {
   memset(&record, PATTERN, sizeof record);
   memset(&answer, PATTERN, sizeof answer);
   uint32_t returned = friscurella_read_sequence_header(input, length, &record, &answer);
-  judge("read_sequence_header", returned, &answer, number, &record, sizeof record);
+  judge("read_sequence_header", returned, &answer, number, intact(&record, sizeof record));
 }
 
 /* Bad bytes of every number that the reader refuses with, around the smallest header:
@@ -58,20 +60,79 @@ static void reader(void) {
   reads(longer, sizeof longer, FRISCURELLA_LONG);
 }
 
+/* A call of each reader of a part, which has to refuse. The context is given, and the rest of the
+   record holds the pattern. */
+#define PART_READER(part, previous) \
+  static void read_##part(const void *context, const uint8_t *input, size_t length, \
+                          uint32_t place, uint32_t number) { \
+    struct friscurella_##part##_params record, before; \
+    struct friscurella_answer answer; \
+    memset(&record, PATTERN, sizeof record); \
+    memset(&answer, PATTERN, sizeof answer); \
+    memcpy(&record.context, context, sizeof record.context); \
+    before = record; \
+    uint32_t returned = \
+        friscurella_read_##part##_params(input, length, place previous, &record, &answer); \
+    bool kept = memcmp(&record, &before, sizeof record) == 0; \
+    judge("read_" #part "_params", returned, &answer, number, kept); \
+  }
+#define COMMA_PREVIOUS , &previous
+static const struct friscurella_loop_filter_deltas previous = {{1, 2, 3, 4, 5, 6, 7, 8}, {9, 10}};
+PART_READER(quantization, )
+PART_READER(segmentation, )
+PART_READER(loop_filter, COMMA_PREVIOUS)
+PART_READER(cdef, )
+PART_READER(lr, )
+
+/* For a reader numbers 4 and 8. Set bits alone make the longest part: it needs so many of them, and
+   every count below runs out. Also a place beyond the end, and a slice too long, which comes
+   first. */
+static void refuses(void (*read)(const void *, const uint8_t *, size_t, uint32_t, uint32_t),
+                    const void *context, uint32_t needed) {
+  uint8_t ones[49];
+  memset(ones, 0xFF, sizeof ones);
+  for (uint32_t bits = 0; bits < needed; bits++)
+    read(context, ones, sizeof ones, 8 * sizeof ones - bits, FRISCURELLA_ENDS);
+  for (uint32_t beyond = 1; beyond != 0; beyond *= 2) {
+    read(context, ones, 0, beyond, FRISCURELLA_ENDS);
+    read(context, ones, sizeof ones, 8 * sizeof ones + beyond, FRISCURELLA_ENDS);
+  }
+  read(context, ones, sizeof ones, UINT32_MAX, FRISCURELLA_ENDS);
+  read(context, buffer, ROOM, 0, FRISCURELLA_LONG);
+  read(context, buffer, ROOM, UINT32_MAX, FRISCURELLA_LONG);
+}
+
+static void part_readers(void) {
+  static const struct friscurella_quantization_context quantization = {3, 1};
+  static const struct friscurella_segmentation_context segmentation = {0};
+  static const struct friscurella_loop_filter_context filter = {0, 0, 3}, no_filter = {1, 0, 3};
+  static const struct friscurella_cdef_context cdef = {0, 0, 1, 3}, no_cdef = {0, 0, 0, 3};
+  static const struct friscurella_lr_context lr = {0, 0, 1, 3, 0, 1, 1};
+  static const struct friscurella_lr_context no_lr = {0, 1, 1, 3, 0, 1, 1};
+  refuses(read_quantization, &quantization, 62);
+  refuses(read_segmentation, &segmentation, 388);
+  refuses(read_loop_filter, &filter, 109);
+  refuses(read_cdef, &cdef, 100);
+  refuses(read_lr, &lr, 9);
+  refuses(read_loop_filter, &no_filter, 0); /* nothing is coded: the place alone is refused */
+  refuses(read_cdef, &no_cdef, 0);
+  refuses(read_lr, &no_lr, 0);
+}
+
 /* A call of each writer into the first `length` bytes of the buffer, which has to refuse. */
 #define OBU(name, type) \
   static void name(const struct friscurella_##type *record, size_t length, uint32_t number) { \
     struct friscurella_answer answer; \
     memset(&answer, PATTERN, sizeof answer); \
     uint32_t returned = friscurella_write_##name(record, buffer, length, &answer); \
-    judge(#name, returned, &answer, number, buffer, sizeof buffer); \
+    judge(#name, returned, &answer, number, intact(buffer, sizeof buffer)); \
   }
 #define PART(name) \
   static void name(const struct friscurella_##name *record, size_t length, uint32_t number) { \
     struct friscurella_answer answer; \
     memset(&answer, PATTERN, sizeof answer); \
     uint32_t returned = friscurella_write_##name(record, 3, buffer, length, &answer); \
-    judge(#name, returned, &answer, number, buffer, sizeof buffer); \
+    judge(#name, returned, &answer, number, intact(buffer, sizeof buffer)); \
   }
 OBU(sequence_header, sequence_header)
 OBU(temporal_delimiter, obu_header)
@@ -182,6 +243,7 @@ static void restoration(void) {
 int main(void) {
   memset(buffer, PATTERN, sizeof buffer);
   reader();
+  part_readers();
   sequences();
   delimiters();
   quantization();

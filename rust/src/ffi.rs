@@ -85,6 +85,42 @@ extern "C" {
         record: &mut [u32; 348],
         answer: &mut Answer,
     ) -> u32;
+    fn friscurella_read_quantization_params(
+        input: *const u8,
+        length: usize,
+        place: u32,
+        record: &mut [i32; 13],
+        answer: &mut Answer,
+    ) -> u32;
+    fn friscurella_read_segmentation_params(
+        input: *const u8,
+        length: usize,
+        place: u32,
+        record: &mut [i32; 133],
+        answer: &mut Answer,
+    ) -> u32;
+    fn friscurella_read_loop_filter_params(
+        input: *const u8,
+        length: usize,
+        place: u32,
+        previous: &[i32; 10],
+        record: &mut [i32; 20],
+        answer: &mut Answer,
+    ) -> u32;
+    fn friscurella_read_cdef_params(
+        input: *const u8,
+        length: usize,
+        place: u32,
+        record: &mut [i32; 38],
+        answer: &mut Answer,
+    ) -> u32;
+    fn friscurella_read_lr_params(
+        input: *const u8,
+        length: usize,
+        place: u32,
+        record: &mut [i32; 14],
+        answer: &mut Answer,
+    ) -> u32;
     fn friscurella_payload(input: *const u8, length: usize, part: &mut [u32; 2]);
     fn friscurella_is_temporal_delimiter(input: *const u8, length: usize) -> bool;
 }
@@ -157,6 +193,34 @@ pub fn read_sequence_header(input: &[u8]) -> ([u32; 348], Answer) {
         friscurella_read_sequence_header(input.as_ptr(), input.len(), &mut record, &mut answer)
     };
     (record, answer)
+}
+
+/// A function for each reader of a part. The context in the record is read, and the rest is filled.
+macro_rules! readers {
+    ($($name:ident $call:ident $count:literal ($($previous:ident)?);)+) => {
+        $(pub fn $name(
+            input: &[u8],
+            place: u32,
+            $($previous: &[i32; 10],)?
+            record: &mut [i32; $count],
+        ) -> Answer {
+            let mut answer = [0; 4];
+            // SAFETY: `input` is lent for the call, with its own length, and so are the arrays;
+            // `answer` is a local. Any place is allowed.
+            unsafe {
+                $call(input.as_ptr(), input.len(), place, $($previous,)? record, &mut answer)
+            };
+            answer
+        })+
+    };
+}
+
+readers! {
+    read_quantization_params friscurella_read_quantization_params 13 ();
+    read_segmentation_params friscurella_read_segmentation_params 133 ();
+    read_loop_filter_params friscurella_read_loop_filter_params 20 (previous);
+    read_cdef_params friscurella_read_cdef_params 38 ();
+    read_lr_params friscurella_read_lr_params 14 ();
 }
 
 pub fn payload(input: &[u8]) -> [u32; 2] {

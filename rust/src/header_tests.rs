@@ -113,6 +113,8 @@ fn records_are_those_of_the_c_header() {
     assert_record("segmentation_params", "int32_t", &segmentation);
     let loop_filter = part::<LoopFilterContext, LoopFilterParams>();
     assert_record("loop_filter_params", "int32_t", &loop_filter);
+    let deltas = names::<LoopFilterDeltas>();
+    assert_record("loop_filter_deltas", "int32_t", &deltas);
     let cdef = part::<CdefContext, CdefParams>();
     assert_record("cdef_params", "int32_t", &cdef);
     let restoration = part::<LoopRestorationContext, LoopRestorationParams>();

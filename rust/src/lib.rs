@@ -3,8 +3,8 @@
 //! types and names of the AV1 standard.
 //!
 //! A record is written whole, as the standard codes it, or refused by the name of its first bad
-//! element with the buffer untouched. The reader accepts exactly the spellings of the records that
-//! the writer accepts.
+//! element with the buffer untouched. The reader of a sequence header accepts exactly the spellings
+//! of the records that the writer accepts; the reader of a part takes any bits that are enough.
 //!
 //! ```
 //! use friscurella::{read_sequence_header, write_sequence_header, SequenceHeaderObu};
@@ -51,7 +51,7 @@ pub use record::*;
 pub use refusal::{Element, Refusal};
 
 /// The version of the library that this crate is for: 10000 * major + 100 * minor + patch.
-pub const VERSION: u32 = 500;
+pub const VERSION: u32 = 600;
 
 /// The version of the library that is linked. Another than [`VERSION`] may answer what this crate
 /// does not know.
@@ -66,6 +66,7 @@ const _: () = assert!(CdefContext::COUNT == 4 && LoopRestorationContext::COUNT =
 const _: () = assert!(QuantizationContext::COUNT + QuantizationParams::COUNT == 13);
 const _: () = assert!(SegmentationContext::COUNT + SegmentationParams::COUNT == 133);
 const _: () = assert!(LoopFilterContext::COUNT + LoopFilterParams::COUNT == 20);
+const _: () = assert!(LoopFilterDeltas::COUNT == 10);
 const _: () = assert!(CdefContext::COUNT + CdefParams::COUNT == 38);
 const _: () = assert!(LoopRestorationContext::COUNT + LoopRestorationParams::COUNT == 14);
 
@@ -93,19 +94,20 @@ pub fn write_temporal_delimiter(header: &ObuHeader, out: &mut [u8]) -> Result<us
     refusal::done(answer).map(|bytes| bytes as usize)
 }
 
-/// What [`write_quantization_params`] goes by. Of a header that [`write_sequence_header`] accepts, or
-/// that [`read_sequence_header`] gave, there is one plane exactly with `mono_chrome`, here and in
-/// the other contexts.
+/// What [`write_quantization_params`] and [`read_quantization_params`] go by. Of a header that
+/// [`write_sequence_header`] accepts, or that [`read_sequence_header`] gave, there is one plane
+/// exactly with `mono_chrome`, here and in the other contexts.
 pub fn quantization_context(header: &SequenceHeaderObu) -> QuantizationContext {
     from_signed(&ffi::quantization_context(&unsigned(header)))
 }
 
-/// What [`write_segmentation_params`] goes by: it takes nothing from the sequence header.
+/// What [`write_segmentation_params`] and [`read_segmentation_params`] go by: nothing of the
+/// sequence header.
 pub fn segmentation_context(primary_ref_frame: u32) -> SegmentationContext {
     SegmentationContext { primary_ref_frame }
 }
 
-/// What [`write_loop_filter_params`] goes by.
+/// What [`write_loop_filter_params`] and [`read_loop_filter_params`] go by.
 pub fn loop_filter_context(
     header: &SequenceHeaderObu,
     coded_lossless: bool,
@@ -116,7 +118,7 @@ pub fn loop_filter_context(
     from_signed(&context)
 }
 
-/// What [`write_cdef_params`] goes by.
+/// What [`write_cdef_params`] and [`read_cdef_params`] go by.
 pub fn cdef_context(
     header: &SequenceHeaderObu,
     coded_lossless: bool,
@@ -127,7 +129,7 @@ pub fn cdef_context(
     from_signed(&context)
 }
 
-/// What [`write_lr_params`] goes by.
+/// What [`write_lr_params`] and [`read_lr_params`] go by.
 pub fn lr_context(
     header: &SequenceHeaderObu,
     all_lossless: bool,
@@ -238,6 +240,115 @@ pub fn read_sequence_header(input: &[u8]) -> Result<SequenceHeaderObu, Refusal> 
     let (numbers, answer) = ffi::read_sequence_header(input);
     refusal::done(answer)?;
     Ok(from_unsigned(&numbers))
+}
+
+/// The part that a call reads by a context, and its end.
+fn read_part<const N: usize, Context: Numbers, Params: Numbers + Default>(
+    context: &Context,
+    call: impl FnOnce(&mut [i32; N]) -> ffi::Answer,
+) -> Result<(Params, u32), Refusal> {
+    let mut numbers = signed(context, &Params::default());
+    let end = refusal::done(call(&mut numbers))?;
+    let part = numbers.get(Context::COUNT..).unwrap_or_default();
+    Ok((from_signed(part), end))
+}
+
+/// Reads `quantization_params` (5.9.12) from the bit `place` of the input on (bit 0 is the top bit
+/// of the first byte), and answers them and the bit behind their last. Fields that are not coded
+/// hold the value that their record says for that case, and 0 where it says none. The writer
+/// accepts what was read.
+///
+/// ```
+/// use friscurella::{read_quantization_params, QuantizationContext};
+///
+/// let context = QuantizationContext { planes: 1, separate_uv_delta_q: false };
+/// let (params, end) = read_quantization_params(&[0x64, 0xFF, 0x00], 0, &context)?;
+/// assert_eq!((params.base_q_idx, params.delta_q_y_dc, end), (100, -1, 17));
+/// # Ok::<(), friscurella::Refusal>(())
+/// ```
+///
+/// # Errors
+///
+/// The first of: [`Refusal::Long`]; [`Refusal::Ends`], where the bits run out or `place` is beyond
+/// the end, also where nothing is coded. There is no other.
+pub fn read_quantization_params(
+    input: &[u8],
+    place: u32,
+    context: &QuantizationContext,
+) -> Result<(QuantizationParams, u32), Refusal> {
+    read_part(context, |record| {
+        ffi::read_quantization_params(input, place, record)
+    })
+}
+
+/// Reads `segmentation_params` (5.9.14) from the bit `place` of the input on, and answers them and
+/// the bit behind their last. Feature data is clipped. Without `segmentation_update_data` the
+/// features are 0, where those of the reference stand.
+///
+/// # Errors
+///
+/// As [`read_quantization_params`].
+pub fn read_segmentation_params(
+    input: &[u8],
+    place: u32,
+    context: &SegmentationContext,
+) -> Result<(SegmentationParams, u32), Refusal> {
+    read_part(context, |record| {
+        ffi::read_segmentation_params(input, place, record)
+    })
+}
+
+/// Reads `loop_filter_params` (5.9.11) from the bit `place` of the input on, and answers them and
+/// the bit behind their last. A delta whose flag is not set is the previous one, and without
+/// `loop_filter_delta_update` all are; but where nothing is coded, they are the default. The writer
+/// accepts what was read if the previous deltas are -64 to 63.
+///
+/// # Errors
+///
+/// As [`read_quantization_params`].
+pub fn read_loop_filter_params(
+    input: &[u8],
+    place: u32,
+    context: &LoopFilterContext,
+    previous: &LoopFilterDeltas,
+) -> Result<(LoopFilterParams, u32), Refusal> {
+    let previous = signed(
+        &previous.loop_filter_ref_deltas,
+        &previous.loop_filter_mode_deltas,
+    );
+    read_part(context, |record| {
+        ffi::read_loop_filter_params(input, place, &previous, record)
+    })
+}
+
+/// Reads `cdef_params` (5.9.19) from the bit `place` of the input on, and answers them and the bit
+/// behind their last.
+///
+/// # Errors
+///
+/// As [`read_quantization_params`].
+pub fn read_cdef_params(
+    input: &[u8],
+    place: u32,
+    context: &CdefContext,
+) -> Result<(CdefParams, u32), Refusal> {
+    read_part(context, |record| {
+        ffi::read_cdef_params(input, place, record)
+    })
+}
+
+/// Reads `lr_params` (5.9.20) from the bit `place` of the input on, and answers them and the bit
+/// behind their last.
+///
+/// # Errors
+///
+/// As [`read_quantization_params`].
+pub fn read_lr_params(
+    input: &[u8],
+    place: u32,
+    context: &LoopRestorationContext,
+) -> Result<(LoopRestorationParams, u32), Refusal> {
+    read_part(context, |record| ffi::read_lr_params(input, place, record))
 }
 
 /// The payload of a sequence header OBU, as a part of the input: all behind the size field, or

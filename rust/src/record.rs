@@ -365,6 +365,38 @@ record! {
 }
 
 record! {
+    /// The deltas before `loop_filter_params`, which its reader is lent: those of the frame that
+    /// `primary_ref_frame` refers to ([`LoopFilterParams::deltas`]); without one, the default.
+    #[derive(Clone, Copy, Debug, PartialEq, Eq, Hash)]
+    pub struct LoopFilterDeltas {
+        /// By reference number, as [`DEFAULT_REF_DELTAS`].
+        pub loop_filter_ref_deltas: [i8; 8],
+        /// By mode.
+        pub loop_filter_mode_deltas: [i8; 2],
+    }
+}
+
+impl Default for LoopFilterDeltas {
+    /// The standard's defaults: [`DEFAULT_REF_DELTAS`], and 0, 0.
+    fn default() -> LoopFilterDeltas {
+        LoopFilterDeltas {
+            loop_filter_ref_deltas: DEFAULT_REF_DELTAS,
+            loop_filter_mode_deltas: [0, 0],
+        }
+    }
+}
+
+impl LoopFilterParams {
+    /// The deltas, for a frame that has this one as its primary reference.
+    pub fn deltas(&self) -> LoopFilterDeltas {
+        LoopFilterDeltas {
+            loop_filter_ref_deltas: self.loop_filter_ref_deltas,
+            loop_filter_mode_deltas: self.loop_filter_mode_deltas,
+        }
+    }
+}
+
+record! {
     /// What the headers say before `cdef_params`.
     #[derive(Clone, Copy, Debug, Default, PartialEq, Eq, Hash)]
     pub struct CdefContext {

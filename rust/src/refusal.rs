@@ -34,7 +34,7 @@ pub enum Refusal {
         /// [`SLICE_LIMIT`](crate::SLICE_LIMIT), which no call takes.)
         needed: u32,
     },
-    /// The input ends inside header, size or body.
+    /// The input ends inside header, size or body, or inside or before a part.
     Ends,
     /// A forbidden or reserved bit is set.
     Reserved,

@@ -16,7 +16,6 @@ import settings
 
 HERE = pathlib.Path(__file__).resolve().parent
 PARTS_PER_WORD = 40
-CONTEXT = {"quant": 2, "seg": 1, "lf": 3, "cdef": 4, "lr": 7}  # the numbers of a case that are not of the record
 
 
 def run(command, scratch):
@@ -73,7 +72,7 @@ def interleaved(cases):
 
 
 def form(part):
-    return part.word, tuple(part.numbers[:CONTEXT[part.word]]), part.end - part.place
+    return part.word, tuple(part.numbers[:parts.CONTEXT[part.word]]), part.end - part.place
 
 
 def signs(part):
@@ -97,7 +96,7 @@ def choose(cases):
                 chosen.add(i)
                 count[part.word] += 1
                 seen |= {other(part) for other in keys}
-    order = list(CONTEXT)
+    order = list(parts.CONTEXT)
     return sorted((cases[i] for i in chosen), key=lambda case: (order.index(case[2].word), case[0].name, case[1]))
 
 
@@ -124,7 +123,7 @@ def report(headers, cases, kept, others, uncoded):
         mine = sum(stream.encoder == encoder for stream, _, _ in kept)
         print(f"{encoder}: {streams}, {own}, {frames}, {mine}")
     print("word: parts, different records, kept, places in a byte, left out for another legal spelling")
-    for word in CONTEXT:
+    for word in parts.CONTEXT:
         all_parts = [part for _, _, part in cases if part.word == word]
         mine = [part for _, _, part in kept if part.word == word]
         records = len({tuple(part.numbers) for part in all_parts})

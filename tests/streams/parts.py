@@ -9,8 +9,14 @@ import sequence
 KEY_FRAME = 0
 PRIMARY_REF_NONE = 7
 
+# The numbers of a case that are not of the record
+CONTEXT = {"quant": 2, "seg": 1, "lf": 3, "cdef": 4, "lr": 7}
+
 # What the record must hold where the loop filter is not coded: the standard's defaults of the eight references and the two modes
 DEFAULT_DELTAS = [1, 0, 0, 0, -1, 0, -1, -1, 0, 0]
+
+# Deltas that no stream here has
+OTHER_DELTAS = [-128, 127, 2, -3, 4, -5, 6, -7, 64, -65]
 
 FEATURE_BITS = [8, 6, 6, 6, 6, 3, 0, 0]
 FEATURE_LIMITS = [255, 63, 63, 63, 63, 7, 0, 0]
@@ -197,6 +203,30 @@ def spell_lr(lossless, intrabc, enable, planes, large, x, y, kind0, kind1, kind2
 
 RECORDS = {"quant": quant, "seg": seg, "lf": lf, "cdef": cdef, "lr": lr}
 SPELLINGS = {"quant": spell_quant, "seg": spell_seg, "lf": spell_lf, "cdef": spell_cdef, "lr": spell_lr}
+
+
+# The cases as cases of the readers
+
+
+def readings(case, answer):
+    """The real bytes read at the part's place, with FFmpeg's fields as the answer; and the same bytes cut off inside the part, or before its place."""
+    words, settings = case.split("; ")
+    word, *numbers = words.split()
+    context, record = numbers[:CONTEXT[word]], numbers[CONTEXT[word]:]
+    place, (_, end, data) = settings.split(" ")[1], answer.split()
+    for before in (DEFAULT_DELTAS, OTHER_DELTAS) if word == "lf" else ([],):
+        line = f"r{word} {' '.join([*context, *map(str, before)])}; {place} in="
+        yield line + data, f"0 {end} {' '.join(after(record, before) if stands(word, context, record) else record)}"
+    yield line + data[:(int(end) - 1) // 8 * 2], "4 0 0"
+
+
+def stands(word, context, record):
+    """Whether the loop filter is coded, and none of its deltas."""
+    return word == "lf" and context[:2] == ["0", "0"] and record[6] == "0"
+
+
+def after(record, deltas):
+    return record[:-len(deltas)] + [str(delta) for delta in deltas]
 
 
 # The frames of a stream

@@ -21,6 +21,15 @@ LINES = [
     ("payload " + OVER, "0 0"),
     ("read 0A0418000011" + "00" * 65530, "6 0 0"),
     ("payload 08180000" + "11" + "00" * 65531, "1 65535"),
+    (f"rquant 1 0 ; in={FULL} place=524263", "0 524288 210 -46 0 0 0 0 0 1 10 5 5"),  # 11010010 1 1010010 1 1010 0101
+    (f"rquant 1 0 ; in={FULL} place=524264", "4 0 0"),
+    (f"rlr 1 0 1 3 0 1 1 ; place=524288 in={FULL}", "0 524288 0 0 0 0 0 0 0"),
+    (f"rlr 1 0 1 3 0 1 1 ; place=524289 in={FULL}", "4 0 0"),
+    (f"rlr 1 0 1 3 0 1 1 ; in={OVER}", "8 0 0"),
+    (f"rseg 7 ; in={OVER}", "8 0 0"),
+    (f"rlf 0 0 3 1 0 0 0 -1 0 -1 -1 0 0 ; in={OVER}".ljust(200000), "8 0 0"),
+    (f"rlf 0 0 3 1 0 0 0 -1 0 -1 -1 0 0 ; in={OVER}".ljust(200001), "bad"),
+    (f"rcdef 0 0 1 3 ; in={OVER} place=4294967295", "8 0 0"),  # before 4
     (DELIMITER + " ; buf=EE", "3 2 0 EE"),
 ]
 for line, answer in LINES:

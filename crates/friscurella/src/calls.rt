@@ -2,12 +2,17 @@
 use bits::answer::Numbered;
 use bits::answer::answer_numbers;
 use cdef_numbers::write_cdef_numbers;
+use cdef_reader::read::read_cdef_numbers;
 use contexts::of_numbers::*;
 use loop_filter_numbers::write_loop_filter_numbers;
+use loop_filter_reader::read::read_loop_filter_numbers;
 use obu::delimiter::is_temporal_delimiter;
 use quantization_numbers::write_quantization_numbers;
+use quantization_reader::read::read_quantization_numbers;
 use restoration_numbers::write_restoration_numbers;
+use restoration_reader::read::read_lr_numbers;
 use segmentation_numbers::write_segmentation_numbers;
+use segmentation_reader::read::read_segmentation_numbers;
 use sequence_numbers::write_delimiter_numbers;
 use sequence_numbers::write_sequence_numbers;
 use sequence_reader::place;
@@ -29,11 +34,16 @@ ghost use Rattle.segmentation_numbers.specs.Numbers.{segmentation-walk};
 ghost use Rattle.loop_filter_numbers.specs.Numbers.{loop-filter-walk};
 ghost use Rattle.cdef_numbers.specs.Numbers.{cdef-walk};
 ghost use Rattle.restoration_numbers.specs.Numbers.{lr-walk};
+ghost use Rattle.quantization_reader.specs.Layout.{quantization-place, quantization-by};
+ghost use Rattle.restoration_reader.specs.Layout.{lr-place, lr-by};
+ghost use Rattle.loop_filter_reader.specs.Layout.{loop-filter-place, loop-filter-by};
+ghost use Rattle.segmentation_reader.specs.Layout.{segmentation-place, segmentation-by};
+ghost use Rattle.cdef_reader.specs.Layout.{cdef-place, cdef-by};
 ghost use Rattle.contexts.specs.Contexts.{quantization-context, loop-filter-context, cdef-context, lr-context};
 ghost use Rattle.contexts.specs.Numbers.{quantization-numbers, loop-filter-numbers, cdef-numbers, lr-numbers};
 ghost use Rattle.starter.specs.Video.{video};
 ghost use Rattle.words.specs.Sentence.{explained, cut};
-ghost use Rattle.friscurella.specs.Calls.{version, answer-of, outcome-numbers, part-numbers, lent, wrote-obu, wrote-part, was-read};
+ghost use Rattle.friscurella.specs.Calls.{version, answer-of, outcome-numbers, part-numbers, lent, wrote-obu, wrote-part, was-read, part-was-read};
 
 // The answer, and its number.
 fn tell(n: Numbered, answer: &mut [u32; 4]) -> u32
@@ -63,7 +73,7 @@ fn outcome_numbers(o: Outcome) -> Numbered
 pub extern "C" fn friscurella_version() -> u32
     ensures { λ r. ⌜ r ≡ version ⌝ }
 {
-    500
+    600
 }
 
 // One sentence on an answer, cut where there is no room for it and a 0 byte. Returns the length of the whole sentence.
@@ -245,6 +255,73 @@ pub extern "C" fn friscurella_read_sequence_header(
 {
     let o = read_sequence_header(input, record);
     tell(outcome_numbers(o), answer)
+}
+
+// Each part is read by the context that stands in its record; where it is refused, the record is as it was.
+#[no_mangle]
+pub extern "C" fn friscurella_read_quantization_params(
+    input: &[u8],
+    place: u32,
+    record: &mut [i32; 13],
+    answer: &mut [u32; 4],
+) -> u32
+    ensures { λ r. ⌜ lent r (now (answer .exit)) (now («record» .exit)) ≡ part-was-read quantization-place quantization-by place (now (input .entry)) (now («record» .entry)) ⌝ }
+{
+    let a = read_quantization_numbers(input, place, record);
+    tell(answer_numbers(a), answer)
+}
+
+#[no_mangle]
+pub extern "C" fn friscurella_read_lr_params(
+    input: &[u8],
+    place: u32,
+    record: &mut [i32; 14],
+    answer: &mut [u32; 4],
+) -> u32
+    ensures { λ r. ⌜ lent r (now (answer .exit)) (now («record» .exit)) ≡ part-was-read lr-place lr-by place (now (input .entry)) (now («record» .entry)) ⌝ }
+{
+    let a = read_lr_numbers(input, place, record);
+    tell(answer_numbers(a), answer)
+}
+
+#[no_mangle]
+pub extern "C" fn friscurella_read_loop_filter_params(
+    input: &[u8],
+    place: u32,
+    previous: &[i32; 10],
+    record: &mut [i32; 20],
+    answer: &mut [u32; 4],
+) -> u32
+    ensures { λ r. ⌜ lent r (now (answer .exit)) (now («record» .exit)) ≡ part-was-read loop-filter-place (loop-filter-by (now (previous .entry))) place (now (input .entry)) (now («record» .entry)) ⌝ }
+{
+    let a = read_loop_filter_numbers(input, place, previous, record);
+    tell(answer_numbers(a), answer)
+}
+
+#[no_mangle]
+pub extern "C" fn friscurella_read_segmentation_params(
+    input: &[u8],
+    place: u32,
+    record: &mut [i32; 133],
+    answer: &mut [u32; 4],
+) -> u32
+    ensures { λ r. ⌜ lent r (now (answer .exit)) (now («record» .exit)) ≡ part-was-read segmentation-place segmentation-by place (now (input .entry)) (now («record» .entry)) ⌝ }
+{
+    let a = read_segmentation_numbers(input, place, record);
+    tell(answer_numbers(a), answer)
+}
+
+#[no_mangle]
+pub extern "C" fn friscurella_read_cdef_params(
+    input: &[u8],
+    place: u32,
+    record: &mut [i32; 38],
+    answer: &mut [u32; 4],
+) -> u32
+    ensures { λ r. ⌜ lent r (now (answer .exit)) (now («record» .exit)) ≡ part-was-read cdef-place cdef-by place (now (input .entry)) (now («record» .entry)) ⌝ }
+{
+    let a = read_cdef_numbers(input, place, record);
+    tell(answer_numbers(a), answer)
 }
 
 // The payload's first byte and its length.

@@ -2,3 +2,4 @@
 pub mod answer;
 pub mod input;
 pub mod parse;
+pub mod signed; // signed.rt: numbers with a sign

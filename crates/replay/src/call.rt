@@ -1,36 +1,11 @@
 // The call that a case line asks for.
-use crate::fields::Taken;
-use crate::settings::Parsed;
-use crate::word::Word;
+use cases::fields::Taken;
+use cases::settings::Parsed;
+use cases::signed::all_signed;
+use cases::word::Word;
 use friscurella::calls::*;
 use lines::parse::Bytes;
 use sequence_reader::place;
-ghost use mathlib.Core.Path.{_≡_};
-ghost use mir.Syntax.{w32};
-ghost use mir.Val.{toZ};
-
-// A number of 32 bits in two's complement.
-fn signed(code: u32) -> i32
-    ensures { λ r. ⌜ r ≡ toZ w32 code ⌝ }
-{
-    if code < 2147483648 {
-        code as i32
-    } else {
-        -1 - (4294967295 - code) as i32
-    }
-}
-
-// The first numbers of a record.
-fn all_signed(record: &[u32; place::NUMBERS], to: &mut [i32]) {
-    let mut i = 0;
-    while i < to.len() {
-        if place::NUMBERS <= i {
-            return;
-        }
-        to[i] = signed(record[i]);
-        i += 1;
-    }
-}
 
 fn td(record: &[u32; place::NUMBERS], out: &mut [u8], answer: &mut [u32; 4]) -> u32 {
     let r = [
@@ -95,11 +70,11 @@ fn writer(
 // Answers a writer's line, whose numbers begin at a place.
 pub fn write(word: Word, line: &[u8], at: usize, buffer: &mut [u8], out: &mut [u8]) -> usize {
     let mut record = [0u32; place::NUMBERS];
-    let t = crate::fields::numbers(word, line, at, &mut record);
+    let t = cases::fields::numbers(word, line, at, &mut record);
     let Taken::Next(at, _) = t else {
         return crate::show::bad(out);
     };
-    let s = crate::settings::settings(line, at, crate::word::has_place(word), buffer);
+    let s = cases::settings::settings(line, at, false, cases::word::has_place(word), buffer);
     let Parsed::Next(s) = s else {
         return crate::show::bad(out);
     };
@@ -110,6 +85,120 @@ pub fn write(word: Word, line: &[u8], at: usize, buffer: &mut [u8], out: &mut [u
     let mut answer = [0u32; 4];
     writer(word, &record, s.place, &mut buffer[0..size], &mut answer);
     crate::show::written(out, &answer, &buffer[0..size])
+}
+
+fn rquant(
+    record: &[u32; place::NUMBERS],
+    place: u32,
+    input: &[u8],
+    answer: &mut [u32; 4],
+) -> [i32; 13] {
+    let mut r = [0i32; 13];
+    all_signed(record, &mut r);
+    friscurella_read_quantization_params(input, place, &mut r, answer);
+    r
+}
+
+fn rseg(
+    record: &[u32; place::NUMBERS],
+    place: u32,
+    input: &[u8],
+    answer: &mut [u32; 4],
+) -> [i32; 133] {
+    let mut r = [0i32; 133];
+    all_signed(record, &mut r);
+    friscurella_read_segmentation_params(input, place, &mut r, answer);
+    r
+}
+
+fn rlf(
+    record: &[u32; place::NUMBERS],
+    place: u32,
+    input: &[u8],
+    answer: &mut [u32; 4],
+) -> [i32; 20] {
+    let mut r = [0i32; 20];
+    all_signed(record, &mut r);
+    let mut previous = [0i32; 10];
+    let numbers = &record[..];
+    all_signed(&numbers[3..13], &mut previous);
+    friscurella_read_loop_filter_params(input, place, &previous, &mut r, answer);
+    r
+}
+
+fn rcdef(
+    record: &[u32; place::NUMBERS],
+    place: u32,
+    input: &[u8],
+    answer: &mut [u32; 4],
+) -> [i32; 38] {
+    let mut r = [0i32; 38];
+    all_signed(record, &mut r);
+    friscurella_read_cdef_params(input, place, &mut r, answer);
+    r
+}
+
+fn rlr(
+    record: &[u32; place::NUMBERS],
+    place: u32,
+    input: &[u8],
+    answer: &mut [u32; 4],
+) -> [i32; 14] {
+    let mut r = [0i32; 14];
+    all_signed(record, &mut r);
+    friscurella_read_lr_params(input, place, &mut r, answer);
+    r
+}
+
+fn part_reader(
+    word: Word,
+    record: &[u32; place::NUMBERS],
+    place: u32,
+    input: &[u8],
+    out: &mut [u8],
+) -> usize {
+    let mut answer = [0u32; 4];
+    match word {
+        Word::Rquant => {
+            let r = rquant(record, place, input, &mut answer);
+            crate::show::params(out, &answer, &r, 2)
+        }
+        Word::Rseg => {
+            let r = rseg(record, place, input, &mut answer);
+            crate::show::params(out, &answer, &r, 1)
+        }
+        Word::Rlf => {
+            let r = rlf(record, place, input, &mut answer);
+            crate::show::params(out, &answer, &r, 3)
+        }
+        Word::Rcdef => {
+            let r = rcdef(record, place, input, &mut answer);
+            crate::show::params(out, &answer, &r, 4)
+        }
+        Word::Rlr => {
+            let r = rlr(record, place, input, &mut answer);
+            crate::show::params(out, &answer, &r, 7)
+        }
+        _ => 0,
+    }
+}
+
+// Answers the line of a part's reader: what it goes by begins at a place.
+pub fn read_part(word: Word, line: &[u8], at: usize, buffer: &mut [u8], out: &mut [u8]) -> usize {
+    let mut record = [0u32; place::NUMBERS];
+    let t = cases::fields::numbers(word, line, at, &mut record);
+    let Taken::Next(at, _) = t else {
+        return crate::show::bad(out);
+    };
+    let s = cases::settings::settings(line, at, true, true, buffer);
+    let Parsed::Next(s) = s else {
+        return crate::show::bad(out);
+    };
+    let size = s.size;
+    if buffer.len() < size {
+        return crate::show::bad(out);
+    }
+    part_reader(word, &record, s.place, &buffer[0..size], out)
 }
 
 // A reader's input, in hex, and nothing behind it.

@@ -1,12 +1,10 @@
 // Answers case lines: each line of standard input gets a line of standard output (docs/CASE-LINES.md).
 mod call;
-mod fields;
-mod settings;
 mod show;
-mod word;
 
+use cases::word;
+use cases::word::Word;
 use lines::input::*;
-use word::Word;
 
 // A line's answer, put at the start of out. A line with no word, and one whose first word begins with `#`, has none.
 fn answer(line: &[u8], buffer: &mut [u8], out: &mut [u8]) -> usize {
@@ -21,6 +19,9 @@ fn answer(line: &[u8], buffer: &mut [u8], out: &mut [u8]) -> usize {
         return 0;
     }
     let word = word::named(name);
+    if word::reads_part(word) {
+        return call::read_part(word, line, to, buffer, out);
+    }
     match word {
         Word::Read => call::read(line, to, buffer, out),
         Word::Payload => call::payload(line, to, buffer, out),

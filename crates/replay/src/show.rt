@@ -1,5 +1,6 @@
 // Answer lines.
 use lines::answer::*;
+use lines::signed::signed;
 use sequence_reader::place;
 ghost use Prim.Native.Nat.{_≤_};
 ghost use Rattle.sequence_reader.specs.Places.{numbers};
@@ -65,6 +66,37 @@ pub fn record(out: &mut [u8], answer: &[u32; 4], record: &[u32; place::NUMBERS])
     let at = row(out, at, record, 0, place::OPERATING_POINTS);
     let at = more(out, at, 32);
     let at = row(out, at, record, place::OPERATING_POINTS, place::NUMBERS);
+    byte(out, at, b'\n')
+}
+
+// A space and a number with a sign.
+fn more_signed(out: &mut [u8], at: usize, n: i32) -> usize {
+    let m = signed(n);
+    let at = byte(out, at, b' ');
+    if m.is_negative {
+        let at = byte(out, at, b'-');
+        return decimal(out, at, m.magnitude);
+    }
+    decimal(out, at, m.magnitude)
+}
+
+fn row_signed(out: &mut [u8], at: usize, record: &[i32], from: usize) -> usize {
+    let mut end = at;
+    let mut i = from;
+    while i < record.len() {
+        end = more_signed(out, end, record[i]);
+        i += 1;
+    }
+    end
+}
+
+// A part that was read: the bit behind it, and the record's numbers behind so many of its context; or the refusal.
+pub fn params(out: &mut [u8], answer: &[u32; 4], record: &[i32], context: usize) -> usize {
+    let at = numbers(out, answer);
+    if answer[0] != 0 {
+        return byte(out, at, b'\n');
+    }
+    let at = row_signed(out, at, record, context);
     byte(out, at, b'\n')
 }
 
