@@ -170,4 +170,5 @@ def main():
         print(line if is_input else f"{answer or chr(10).join(delimiter())}", end="\n\n")
 
 
-main()
+if __name__ == "__main__":
+    main()

@@ -1,6 +1,7 @@
-// One row: place, width, name and value, in columns. A field that is not coded has `-` for place and width, and the mark `inferred`.
+// One row: place, width, name and value, in columns. A field that is not coded has `-` for place and width, and a mark that says where its value is from.
 use bits::answer::*;
 use lines::answer::*;
+use lines::signed::*;
 
 // Where a row's numbers end, and its words begin.
 const PLACE: usize = 7;
@@ -19,12 +20,28 @@ pub enum Index {
     At(usize),
 }
 
-// A number that ends before a column.
-pub fn put_right(line: &mut [u8], end: usize, n: u64) {
+// Digits that end before a column; where they start.
+fn put_digits(line: &mut [u8], end: usize, n: u64) -> usize {
     let mut digits = [0u8; 20];
     let k = io::decimal(n, &mut digits);
     if k <= end {
         text(line, end - k, &digits[..k]);
+        return end - k;
+    }
+    end
+}
+
+// A number that ends before a column.
+pub fn put_right(line: &mut [u8], end: usize, n: u64) {
+    put_digits(line, end, n);
+}
+
+fn put_value(line: &mut [u8], value: Number) {
+    let at = put_digits(line, VALUE, value.magnitude);
+    if value.is_negative {
+        if 0 < at {
+            byte(line, at - 1, b'-');
+        }
     }
 }
 
@@ -40,37 +57,53 @@ fn put_name(line: &mut [u8], name: &[u8], index: Index) {
     }
 }
 
-fn put_coded(line: &mut [u8], at: usize, width: usize, name: &[u8], index: Index, value: u64) {
+fn put_coded(line: &mut [u8], at: usize, width: usize, name: &[u8], index: Index, value: Number) {
     put_right(line, PLACE, at as u64);
     put_right(line, WIDTH, width as u64);
     put_name(line, name, index);
-    put_right(line, VALUE, value);
+    put_value(line, value);
     let end = byte(line, VALUE, b'\n');
     write(line, end);
 }
 
-fn coded(at: usize, width: usize, name: &[u8], index: Index, value: u64) {
+fn coded(at: usize, width: usize, name: &[u8], index: Index, value: Number) {
     let mut line = [b' '; 83];
     put_coded(&mut line, at, width, name, index, value);
 }
 
-fn put_inferred(line: &mut [u8], name: &[u8], index: Index, value: u64) {
+fn put_uncoded(line: &mut [u8], name: &[u8], index: Index, value: Number, mark: &[u8]) {
     byte(line, PLACE - 1, b'-');
     byte(line, WIDTH - 1, b'-');
     put_name(line, name, index);
-    put_right(line, VALUE, value);
-    let end = text(line, MARK, b"inferred\n");
+    put_value(line, value);
+    let end = text(line, MARK, mark);
+    let end = byte(line, end, b'\n');
     write(line, end);
+}
+
+// A mark has at most eight letters.
+fn uncoded(name: &[u8], index: Index, value: Number, mark: &[u8]) {
+    let mut line = [b' '; 83];
+    put_uncoded(&mut line, name, index, value, mark);
 }
 
 // A field that the standard gives a value without coding it.
 pub fn inferred_at(name: &[u8], index: Index, value: u64) {
-    let mut line = [b' '; 83];
-    put_inferred(&mut line, name, index, value);
+    uncoded(name, index, natural(value), b"inferred");
 }
 
 pub fn inferred(name: &[u8], value: u64) {
     inferred_at(name, Index::None, value);
+}
+
+// The same of a field that may be below 0.
+pub fn inferred_signed(name: &[u8], index: Index, value: i32) {
+    uncoded(name, index, signed(value), b"inferred");
+}
+
+// A field that keeps the value that it had before.
+pub fn previous(name: &[u8], index: Index, value: i32) {
+    uncoded(name, index, signed(value), b"previous");
 }
 
 fn put_heading(line: &mut [u8]) {
@@ -101,7 +134,7 @@ pub fn f_at(s: &[u8], c: Cursor, n: u32, name: &[u8], index: Index) -> Cursor {
     let GotNumber::Value(value, next) = g else {
         return lost();
     };
-    coded(c.at, n as usize, name, index, value as u64);
+    coded(c.at, n as usize, name, index, natural(value as u64));
     next
 }
 
@@ -124,8 +157,18 @@ pub fn uvlc(s: &[u8], c: Cursor, name: &[u8]) -> Cursor {
         between(c.at, next.at),
         name,
         Index::None,
-        value as u64,
+        natural(value as u64),
     );
+    next
+}
+
+// The row of a field of n bits in two's complement.
+pub fn su_at(s: &[u8], c: Cursor, n: u32, name: &[u8], index: Index) -> Cursor {
+    let g = reader::su(s, c, n);
+    let GotSigned::Value(value, next) = g else {
+        return lost();
+    };
+    coded(c.at, n as usize, name, index, signed(value));
     next
 }
 
@@ -134,7 +177,13 @@ pub fn leb128(s: &[u8], c: Cursor, name: &[u8]) -> Cursor {
     let GotSize::Value(value, next) = g else {
         return lost();
     };
-    coded(c.at, between(c.at, next.at), name, Index::None, value);
+    coded(
+        c.at,
+        between(c.at, next.at),
+        name,
+        Index::None,
+        natural(value),
+    );
     next
 }
 
