@@ -1,5 +1,6 @@
 /* driver SIDE KIND CASE TIMES: one call, TIMES times. SIDE: ours, crate, bare (dav1d's parser alone), dav1d (its exported call), none (the empty loop).
-   KIND: seq, quant, seg, lf, cdef, lr (writers), read, pad (readers). With SHOW set, what the call gives is printed too, so that what is measured is also checked. */
+   KIND: seq, quant, seg, lf, cdef, lr (writers), read (of a header or a part), pad (readers). With SHOW set, what the call gives is printed too, so that what is
+   measured is also checked. */
 #include <dav1d/dav1d.h>
 #include <stdint.h>
 #include <stdio.h>

@@ -98,6 +98,7 @@ check() {
     if [ "$a" = "$b" ]; then echo "$c the same: $a"; else printf '%s differs\n  ours  %s\n  crate %s\n' "$c" "$a" "$b"; fi
   done
   for n in $headers; do echo "read $n: ours $(show ours read "$n"), dav1d $(show dav1d seq "$n")"; done
+  for c in $parts; do echo "read ${c/:/ }: ours $(show ours read "${c#*:}")"; done
   echo "padding: ours $(show ours pad 65536)"
 }
 run() {
@@ -106,6 +107,7 @@ run() {
   for c in $(printf 'seq:%s ' $headers) $parts; do printf '%-8s %8s %8s\n' "${c/:/ }" "$(calls ours "${c%:*}" "${c#*:}")" "$(calls crate "${c%:*}" "${c#*:}")"; done
   printf '%-8s %8s %8s %8s\n' read ours bare dav1d
   for n in $headers; do printf '%-8s %8s %8s %8s\n' "$n" "$(calls ours read "$n")" "$(calls bare seq "$n")" "$(calls dav1d seq "$n")"; done
+  for c in $parts; do printf '%-8s %8s\n' "${c/:/ }" "$(calls ours read "${c#*:}")"; done # dav1d has no call for a part
   few=5 many=10
   echo "reading 65,536 bytes, of them 65,524 padding: $(calls ours pad 65536)"
 }

@@ -22,12 +22,25 @@ PART(lr_params)
 
 static uint8_t input[FRISCURELLA_SLICE_LIMIT];
 static size_t input_size;
-static struct friscurella_sequence_header was_read;
+static struct friscurella_sequence_header was_read; /* or the record of a part, which has fewer numbers */
 static int64_t read_header(const void *r, uint8_t *out, size_t n) {
   (void)r; (void)out; (void)n;
   struct friscurella_answer answer;
   return friscurella_read_sequence_header(input, input_size, &was_read, &answer) == FRISCURELLA_DONE ? 0 : -1;
 }
+#define PART_READER(name, previous) \
+  static int64_t read_##name(const void *r, uint8_t *out, size_t n) { \
+    (void)r; (void)out; (void)n; \
+    struct friscurella_answer answer; \
+    return friscurella_read_##name(input, input_size, 0 previous, (void *)&was_read, &answer) == FRISCURELLA_DONE ? 0 : -1; \
+  }
+#define COMMA_PREVIOUS , &previous
+static const struct friscurella_loop_filter_deltas previous = {FRISCURELLA_DEFAULT_REF_DELTAS, {0, 0}};
+PART_READER(quantization_params, )
+PART_READER(segmentation_params, )
+PART_READER(loop_filter_params, COMMA_PREVIOUS)
+PART_READER(cdef_params, )
+PART_READER(lr_params, )
 
 static void common(struct friscurella_sequence_header *q) {
   q->operating_points[0].seq_level_idx = 8;
@@ -76,15 +89,29 @@ static const struct friscurella_cdef_params cdef_56 = {
   {0, 0, 1, 3}, 3, 6, {0, 1, 2, 3, 4, 5, 6, 7}, {0, 1, 2, 4, 0, 1, 2, 4}, {15, 15, 15, 15, 15, 15, 15, 15}, {4, 4, 4, 4, 4, 4, 4, 4}};
 static const struct friscurella_lr_params lr_57 = {.context = {0, 0, 1, 3, 0, 1, 1}};
 static const struct friscurella_lr_params lr_58 = {{0, 0, 1, 3, 0, 1, 1}, {1, 2, 3}, 1, 1, 1, 1}; /* the bits of the crate, which codes its own numbers of the kinds */
-static const struct { unsigned number; const void *record; call f; } parts[] = {
-  {10, &quant_10, quantization_params}, {50, &quant_50, quantization_params}, {51, &seg_51, segmentation_params}, {52, &seg_52, segmentation_params},
-  {53, &lf_53, loop_filter_params}, {54, &lf_54, loop_filter_params}, {11, &cdef_11, cdef_params}, {56, &cdef_56, cdef_params}, {57, &lr_57, lr_params}, {58, &lr_58, lr_params},
+#define CASE(number, record, name) {number, &record, sizeof record.context, name, read_##name}
+static const struct part { unsigned number; const void *record; size_t context; call write, read; } parts[] = {
+  CASE(10, quant_10, quantization_params), CASE(50, quant_50, quantization_params), CASE(51, seg_51, segmentation_params), CASE(52, seg_52, segmentation_params),
+  CASE(53, lf_53, loop_filter_params), CASE(54, lf_54, loop_filter_params), CASE(11, cdef_11, cdef_params), CASE(56, cdef_56, cdef_params),
+  CASE(57, lr_57, lr_params), CASE(58, lr_58, lr_params),
 };
+static const struct part *find(unsigned n) { /* none for a header */
+  for (size_t i = 0; i < sizeof parts / sizeof *parts; i++) if (parts[i].number == n) return parts + i;
+  return NULL;
+}
+static void write_to_read(const struct part *p) {
+  static uint8_t again[sizeof input];
+  input_size = (size_t)p->write(p->record, input, sizeof input);
+  memcpy(&was_read, p->record, p->context);
+  if (p->read(NULL, NULL, 0)) abort();
+  if (p->write(&was_read, again, sizeof again) != (int64_t)input_size || memcmp(input, again, input_size)) abort(); /* what is read is written as the same bytes */
+}
 
 int ours_pick(const char *kind, unsigned n, const void **record, call *f) {
+  const bool read = !strcmp(kind, "read"), pad = !strcmp(kind, "pad");
+  const struct part *p = find(n);
   if (!strcmp(kind, "seq")) { *record = header(n, true); *f = sequence; return 0; }
-  if (!strcmp(kind, "read") || !strcmp(kind, "pad")) { /* pad: header 6 without a size field, and zeros up to n bytes */
-    const bool pad = !strcmp(kind, "pad");
+  if ((read && !p) || pad) { /* pad: header 6 without a size field, and zeros up to n bytes */
     const struct friscurella_sequence_header *q = header(pad ? 6 : n, !pad);
     input_size = (size_t)sequence(q, input, sizeof input);
     if (pad) input_size = n;
@@ -97,6 +124,9 @@ int ours_pick(const char *kind, unsigned n, const void **record, call *f) {
       seg_52.feature_enabled[i][j] = 1;
       seg_52.feature_data[i][j] = (int32_t[]){-300, 40, -63, 64, 5, 7, 0, 0}[j] + (int32_t)i;
     }
-  for (size_t i = 0; i < sizeof parts / sizeof *parts; i++) if (parts[i].number == n) { *record = parts[i].record; *f = parts[i].f; }
+  if (!p) return 0;
+  if (read) write_to_read(p);
+  *record = p->record;
+  *f = read ? p->read : p->write;
   return 0;
 }

@@ -1,3 +1,4 @@
 pub mod Values
 pub mod Features
 pub mod RoundTrip
+pub mod Clearing

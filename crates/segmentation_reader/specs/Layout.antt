@@ -1,9 +1,12 @@
 -- Where each segmentation parameter stands in the record's numbers, behind the context's.
-use mathlib.Core.List.{List}
-use mathlib.Core.Bool.{Bool, false}
+use mathlib.Core.Path.{_≡_}
+use mathlib.Core.List.{List, _∷_}
+use mathlib.Core.Bool.{Bool, true, false}
 use Prim.Native.Nat.{ℕ, _+_}
 use lib.IntN.{ℤ, pos}
+use Rattle.bits.specs.Bits.{Bits, from}
 use Rattle.bits.specs.Codec.{Codec}
+use Rattle.bits.specs.declared.answer.Cursor.{Cursor}
 use Rattle.fill.specs.Fills.{same, signedBit, of, each, _▸_}
 use Rattle.parts.specs.Codes.{zip, firsts, seconds}
 use Rattle.parts_reader.specs.Reading.{In, number-at}
@@ -27,3 +30,7 @@ segmentation-place = of segmentation-out segmentation-in (number-at 1 signedBit 
 -- the table by the context that stands in the numbers
 abbrev pub segmentation-by : List ℤ → Codec SegmentationParams
 segmentation-by ns = segmentation-params (segmentation-context ns)
+
+-- where r is true, the flag at c is clear: only contracts of functions inside cite this
+pub data Clear (xs : List ℕ) (c : Cursor) (r : Bool) : Type 0 where
+  clear : (r ≡ true → (rest : Bits) × (from xs (c .at) ≡ false ∷ rest)) → Clear xs c r

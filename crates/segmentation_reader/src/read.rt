@@ -13,7 +13,7 @@ ghost use Rattle.bits.specs.Codec.{flag, _▷_};
 ghost use Rattle.fill.specs.Fills.{Fills, signedBit, whole, _▸_};
 ghost use Rattle.parts_reader.specs.Reading.{Tells, number-at};
 ghost use Rattle.segmentation.specs.Segmentation.{features, none, features-if, temporal-update, with-reference, without-reference, enabled-params, segmentation-params};
-ghost use Rattle.segmentation_reader.specs.Layout.{features-place, enabled-place, segmentation-place, segmentation-by};
+ghost use Rattle.segmentation_reader.specs.Layout.{features-place, enabled-place, segmentation-place, segmentation-by, Clear};
 
 fn features(s: &[u8], c: Cursor, n: &mut [i32; 133]) -> Step
     ensures { λ r. ⌜ Fills features-place (features .dec) (now (s .entry)) c r (now (n .entry)) (now (n .exit)) ⌝ }
@@ -134,6 +134,18 @@ fn segmentation_params(
     Step::Next(c)
 }
 
+// Whether a flag stands at a place, and is clear.
+fn is_clear(s: &[u8], c: Cursor) -> bool
+    ensures { λ r. ⌜ Clear (now (s .entry)) c r ⌝ }
+{
+    let mut set = true;
+    let t = flag(s, c, &mut set);
+    let Step::Next(_) = t else {
+        return false;
+    };
+    !set
+}
+
 // The part from the bit `place` of `input` on, behind the context's numbers; where it is refused, all numbers are as they were.
 pub fn fill_segmentation_params(
     input: &[u8],
@@ -147,6 +159,11 @@ pub fn fill_segmentation_params(
     let Step::Next(c) = b else {
         return answer(b);
     };
+    // Where segmentation is off, nothing can be refused behind the flag, and the numbers need no copy.
+    if is_clear(input, c) {
+        let t = segmentation_params(input, c, context, n);
+        return answer(t);
+    }
     let mut m = *n;
     let t = segmentation_params(input, c, context, &mut m);
     let Step::Next(_) = t else {
