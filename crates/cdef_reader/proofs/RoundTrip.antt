@@ -1,9 +1,6 @@
 -- Over and back. What is written reads back as it was coded, and what is read is written again by the same bits.
-use mathlib.Core.Path.{_≡_, refl}
-use mathlib.Core.Bool.{Bool, not, _||_}
-use mathlib.Core.List.{List}
-use Prim.Native.Nat.{ℕ, _^_}
-use lib.Dec.{eqb}
+use mathlib.Core.Path.{refl}
+use Prim.Native.Nat.{ℕ}
 use Rattle.bits.specs.Walk.{run}
 use Rattle.bits.specs.Codec.{checked}
 use Rattle.bits.specs.declared.answer.Refusal.the-variants.{Inconsistent}

@@ -1,17 +1,16 @@
 -- Over and back. What is written reads back as it was coded. What is read is written again, if the old deltas are such as su(7) holds: by the same bits,
 -- unless a delta's flag was clear, which is written set and with the old delta, in seven bits more.
-use mathlib.Core.Path.{_≡_, refl, sym, ap, subst, _∙_}
-use mathlib.Core.List.{List, [], _∷_}
-use mathlib.Core.Bool.{Bool, true, false, cond, not, _&&_, _||_}
-use Prim.Native.Nat.{ℕ, suc, _+_, _*_, _-_, _<_, _^_}
+use mathlib.Core.Path.{refl}
+use mathlib.Core.List.{_∷_}
+use mathlib.Core.Bool.{true}
+use Prim.Native.Nat.{ℕ, suc, _*_, _-_, _<_, _^_}
 use native.Mathlib.Omega.{arith}
 use borrow.Author.Tests.{lt-ltb, le-leb}
-use lib.Dec.{eqb, ltb, leb}
 use lib.IntN.{ℤ, pos, negsuc}
 use lib.Signed.{mag}
-use lib.ListN.{length, getD}
-use Rattle.bits.specs.Bits.{Bits, toBits}
-use Rattle.bits.specs.Walk.{run, join, wrote}
+use lib.ListN.{getD}
+use Rattle.bits.specs.Bits.{toBits}
+use Rattle.bits.specs.Walk.{run, join}
 use Rattle.bits.specs.Codec.{flag, choose, absent, _▷_}
 use Rattle.bits.specs.Codes.{su, su-out}
 use Rattle.bits.specs.Elements.{loop-filter-ref-deltas}
@@ -20,10 +19,9 @@ use Rattle.bits.proofs.Leaves.{field-run}
 use Rattle.parts_reader.specs.Again.{Longer, Rewrites}
 use Rattle.parts_reader.specs.Refusals.{OnlyEnds}
 use Rattle.parts_reader.specs.OverAndBack.{OverAndBack}
-use Rattle.parts.specs.Codes.{inferredSigned}
 use Rattle.parts_reader.proofs.Refusing.{endings}
 use Rattle.parts_reader.proofs.Again.{longer-pieces, agains, via-again, array-again, inferredSigned-again}
-use Rattle.parts_reader.proofs.DeltasAgain.{flag-and-number, delta-again}
+use Rattle.parts_reader.proofs.DeltasAgain.{delta-again}
 use Rattle.parts_reader.proofs.RoundTrip.{over-and-back}
 use Rattle.loop_filter.specs.declared.record.LoopFilterContext.{LoopFilterContext}
 use Rattle.loop_filter.specs.LoopFilter.{chroma-levels, levels, delta, Deltas, ref-deltas, mode-deltas, deltas, delta-update, rest, filter-on, default-deltas, default-refs, default-modes, no-levels, no-rest, filter-off, loop-filter-table, loop-filter-out, loop-filter-in, loop-filter-params}

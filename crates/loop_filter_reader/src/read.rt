@@ -8,7 +8,6 @@ use loop_filter_numbers::record::loop_filter_context;
 use parts::inferred::either;
 use parts_reader::delta::delta;
 use parts_reader::place::*;
-ghost use mathlib.Core.Path.{_≡_};
 ghost use lib.ListN.{replicate};
 ghost use lib.IntN.{pos};
 ghost use Rattle.bits.specs.Codec.{absent};

@@ -1,14 +1,14 @@
 -- What is read is written again, of each form that the tables are made of, and so of a table.
 use mathlib.Core.Path.{_≡_, refl, sym, ap, subst, _∙_}
-use mathlib.Core.List.{List, [], _∷_, _++_, append-nil}
+use mathlib.Core.List.{[], _∷_, _++_}
 use mathlib.Core.Bool.{Bool, true, false}
 use Prim.Native.Nat.{ℕ, zero, suc}
 use native.Mathlib.Omega.{arith}
 use lib.Dec.{ltb}
 use lib.IntN.{ℤ}
-use lib.ListN.{length, length-append}
+use lib.ListN.{length-append}
 use Rattle.bits.specs.Bits.{Bits}
-use Rattle.bits.specs.Walk.{wrote, run, join}
+use Rattle.bits.specs.Walk.{wrote, run}
 use Rattle.bits.specs.Codec.{Codec, got, andThen, f, flag, absent, inferred, inferredFlag, choose, select, checked, merged, via, array, uncons, _▷_}
 use Rattle.bits.specs.Codes.{su}
 use Rattle.bits.specs.Lawful.{loose, Lawful}

@@ -1,5 +1,5 @@
 -- A part's reader refuses a slice that is too long, and bits that end too soon, and nothing else.
-use mathlib.Core.Path.{_≡_, refl, sym, ap, _∙_}
+use mathlib.Core.Path.{_≡_, refl, sym, _∙_}
 use mathlib.Core.List.{List, [], _∷_}
 use mathlib.Core.Bool.{Bool, true, false, cond}
 use Prim.Native.Nat.{ℕ, zero, suc, _*_, _<_, _≤_}
@@ -11,7 +11,7 @@ use lib.ListN.{length}
 use Rattle.bits.specs.Bits.{Bits, from, fromBits}
 use Rattle.bits.specs.Codec.{Codec, Got, got, stop, andThen, takeBits, fieldAs, f, flag, absent, inferred, inferredFlag, choose, select, checked, merged, via, array, uncons, _▷_}
 use Rattle.bits.specs.Codes.{su, su-out, su-in}
-use Rattle.bits.specs.Answers.{Result, value, refused}
+use Rattle.bits.specs.Answers.{value, refused}
 use Rattle.bits.specs.declared.answer.Refusal.{Refusal}
 use Rattle.bits.specs.declared.answer.Refusal.the-variants.{Ends, Long}
 use Rattle.bits.proofs.Laws.{stop-got}

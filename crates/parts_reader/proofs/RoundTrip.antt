@@ -8,10 +8,10 @@ use borrow.Author.Tests.{le-ltb, ltb-false}
 use lib.Dec.{ltb}
 use lib.ListN.{length, length-append, take, drop}
 use lib.Seq.{take-append-seam, drop-append-seam}
-use Rattle.bits.specs.Bits.{Bits, put, from, end}
-use Rattle.bits.specs.Walk.{wrote, run}
+use Rattle.bits.specs.Bits.{Bits, put, from}
+use Rattle.bits.specs.Walk.{run}
 use Rattle.bits.specs.Codec.{Codec, Got, got, stop}
-use Rattle.bits.specs.Answers.{Result, value, refused}
+use Rattle.bits.specs.Answers.{value, refused}
 use Rattle.bits.specs.Lawful.{loose, Lawful}
 use Rattle.bits.specs.declared.answer.Answer.{Answer}
 use Rattle.bits.specs.declared.answer.Answer.the-variants.{Done}

@@ -2,13 +2,13 @@
 use mathlib.Core.Path.{_≡_, refl, sym, ap, subst, _∙_}
 use mathlib.Core.List.{List}
 use mathlib.Core.Bool.{Bool, true, false, cond}
-use Prim.Native.Nat.{ℕ, _-_, _*_, _<_, _≤_, max}
+use Prim.Native.Nat.{ℕ, _-_, _*_, _<_, _≤_}
 use native.Mathlib.Omega.{arith}
 use borrow.Author.Tests.{lt-ltb, le-ltb, ltb-false}
 use lib.Dec.{ltb}
 use lib.ListN.{length}
-use Rattle.bits.specs.Bits.{from, end}
-use Rattle.bits.specs.Codec.{Codec, Got, got, stop}
+use Rattle.bits.specs.Bits.{from}
+use Rattle.bits.specs.Codec.{Codec, got}
 use Rattle.bits.specs.Answers.{Result, value, refused, capped, found, moved, Reads}
 use Rattle.bits.specs.declared.answer.Answer.{Answer}
 use Rattle.bits.specs.declared.answer.Answer.the-variants.{Done, Refused}
@@ -19,7 +19,7 @@ use Rattle.bits.specs.declared.answer.Step.{Step}
 use Rattle.bits.specs.declared.answer.Step.the-variants as S
 use Rattle.bits.proofs.Places.{end-is, length-from}
 use Rattle.fill.specs.Fills.{Layout, Fills}
-use Rattle.fill.proofs.Filling.{Was, went, stopped}
+use Rattle.fill.proofs.Filling.{went, stopped}
 use Rattle.parts_reader.specs.Reading.{ended, read-part, told, Tells, tells, beginning, step-answer}
 
 -- Two answers that the contract allows are equal, and so is what they leave.

@@ -1,6 +1,6 @@
 -- What is read is written again: how the bits that are written stand to those that were read.
 use mathlib.Core.Path.{_≡_}
-use mathlib.Core.List.{List, _++_}
+use mathlib.Core.List.{_++_}
 use Prim.Native.Nat.{_≤_}
 use lib.ListN.{length}
 use Rattle.bits.specs.Bits.{Bits}

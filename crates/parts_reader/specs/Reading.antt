@@ -1,7 +1,7 @@
 -- What the reader of a part answers, and what it leaves in the record's numbers that it is lent: for every table, every place and every slice.
 use mathlib.Core.Path.{_≡_}
 use mathlib.Core.List.{List}
-use mathlib.Core.Bool.{Bool, true, cond}
+use mathlib.Core.Bool.{true, cond}
 use Prim.Native.Nat.{ℕ, _-_, _*_}
 use lib.Dec.{ltb}
 use lib.IntN.{ℤ, pos}

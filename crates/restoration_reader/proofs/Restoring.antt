@@ -1,5 +1,5 @@
 -- How the shifts of 5.9.20 are read, what is stored of the planes in use, and where nothing is restored.
-use mathlib.Core.Path.{_≡_, refl, sym, ap, _∙_}
+use mathlib.Core.Path.{_≡_, refl, ap, _∙_}
 use mathlib.Core.List.{List, [], _∷_}
 use mathlib.Core.Bool.{Bool, true, false}
 use Prim.Native.Nat.{ℕ, _+_, _*_, _/_, _%_, _<_}
@@ -10,7 +10,7 @@ use mir.Syntax.{w32}
 use mir.Val.{Fits, SFits, toZ, ofZ, boolByte}
 use mir.Facts.{toZ-ofZ}
 use Rattle.bits.specs.Bits.{Bits, fromBits, from}
-use Rattle.bits.specs.Codec.{Codec, Got, got, stop, andThen, takeBits, f, flag, absent, inferred, inferredFlag, choose, checked, _▷_}
+use Rattle.bits.specs.Codec.{Codec, Got, got, stop, andThen, takeBits, f, flag, absent, inferred, inferredFlag, checked, _▷_}
 use Rattle.bits.specs.Answers.{reading, found, moved}
 use Rattle.bits.specs.declared.answer.Cursor.{Cursor}
 use Rattle.bits.specs.declared.answer.Refusal.{Refusal}

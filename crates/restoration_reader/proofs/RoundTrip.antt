@@ -1,11 +1,10 @@
 -- Over and back. What is written reads back as it was coded, and what is read is written again by the same bits.
-use mathlib.Core.Path.{_≡_, refl, sym, ap, _∙_}
-use mathlib.Core.Bool.{Bool, true, false, not, _&&_, _||_}
+use mathlib.Core.Path.{_≡_, refl, ap}
+use mathlib.Core.Bool.{Bool, true, false}
 use Prim.Native.Nat.{ℕ, _+_, _-_}
 use native.Mathlib.Omega.{arith}
 use borrow.Author.Tests.{lt-ltb}
-use lib.Dec.{eqb, ltb}
-use Rattle.bits.specs.Walk.{run, wrote}
+use Rattle.bits.specs.Walk.{run}
 use Rattle.bits.specs.Codec.{Codec, fieldAs, flag, choose, absent, checked, _▷_}
 use Rattle.bits.specs.Elements.{lr-unit-shift}
 use Rattle.bits.specs.declared.answer.Refusal.the-variants.{Inconsistent, Unfit}
@@ -17,7 +16,7 @@ use Rattle.parts_reader.proofs.Refusing.{endings, field-ends}
 use Rattle.parts_reader.proofs.Again.{same-pieces, agains, single-again, merged-exact, via-again}
 use Rattle.parts_reader.proofs.RoundTrip.{over-and-back}
 use Rattle.restoration.specs.declared.record.LoopRestorationContext.{LoopRestorationContext}
-use Rattle.restoration.specs.Restoration.{large-out, large-in, large-shift, small-out, small-in, small-shift, unit-shift, uv-shift, shifts, uses, kinds, three-planes, one-kind, one-plane, no-kinds, no-planes, lr-table, lr-out, lr-in, lr-params}
+use Rattle.restoration.specs.Restoration.{large-shift, small-out, small-in, small-shift, unit-shift, uv-shift, shifts, uses, kinds, three-planes, one-kind, one-plane, no-kinds, no-planes, lr-table, lr-out, lr-in, lr-params}
 use Rattle.restoration.proofs.Laws.{large-law, bit-law, lr-law}
 
 -- no refusal but that of bits that run out

@@ -7,8 +7,8 @@ use native.Mathlib.Omega.{arith}
 use borrow.Author.Tests.{not-true}
 use lib.IntN.{ℤ}
 use Rattle.bits.specs.Bits.{Bits, from}
-use Rattle.bits.specs.Codec.{Got, got, stop, flag, choose, absent, via, _▷_}
-use Rattle.bits.specs.Answers.{Reads, value, refused, found}
+use Rattle.bits.specs.Codec.{got, flag, choose, absent, via, _▷_}
+use Rattle.bits.specs.Answers.{Reads, refused, found}
 use Rattle.bits.specs.declared.answer.Answer.{Answer}
 use Rattle.bits.specs.declared.answer.Cursor.{Cursor}
 use Rattle.bits.specs.declared.answer.Refusal.{Refusal}

@@ -1,20 +1,19 @@
 -- Over and back. What is written reads back as it was coded, values as clipped. What is read is written again, in as many bits: by the same bits, but for
 -- a value beyond its limit, which is written as it was clipped.
-use mathlib.Core.Path.{_≡_, refl, sym, ap, subst, _∙_}
-use mathlib.Core.List.{List, [], _∷_, _++_, map}
+use mathlib.Core.Path.{_≡_, refl, sym, ap, _∙_}
+use mathlib.Core.List.{List, [], _∷_, _++_}
 use mathlib.Core.Bool.{Bool, true, false, cond}
 use Prim.Native.Nat.{ℕ, zero, suc, _+_, _*_, _-_, _<_, _≤_, _^_}
 use native.Mathlib.Omega.{arith}
-use borrow.Author.Tests.{lt-ltb, le-leb, ltb-false, ltb-true}
-use lib.Dec.{eqb, ltb, leb}
+use borrow.Author.Tests.{lt-ltb, le-leb, ltb-false}
+use lib.Dec.{ltb}
 use lib.IntN.{ℤ, pos, negsuc, negℤ, natAbs}
 use lib.Signed.{ltZ, _≤ℤ_}
 use lib.Pow.{pow-pos, pow-add}
-use lib.ListN.{length, getD, List·getD-map}
+use lib.ListN.{List·getD-map}
 use Rattle.bits.specs.Bits.{Bits, toBits}
-use Rattle.bits.specs.Widths.{bitLength}
-use Rattle.bits.specs.Walk.{run, field, wrote}
-use Rattle.bits.specs.Codec.{Codec, got, fieldAs, takeBits}
+use Rattle.bits.specs.Walk.{run}
+use Rattle.bits.specs.Codec.{got, fieldAs, takeBits}
 use Rattle.bits.specs.Codes.{su, su-out, su-in}
 use Rattle.bits.specs.declared.answer.Refusal.{Refusal}
 use Rattle.bits.proofs.Laws.{then-inv, got-value, got-rest}
