@@ -17,7 +17,7 @@ use Rattle.bits.proofs.Leaves.{f-law, flag-law, inferred-law, inferredFlag-law}
 use Rattle.bits.proofs.CodeLaws.{su-law}
 use Rattle.parts.specs.Codes.{inferredSigned}
 use Rattle.parts.proofs.Laws.{inferredSigned-law}
-use Rattle.parts_reader.specs.Again.{Same, Level, Shorter, Longer, Again, Rewrites, rewrites}
+use Rattle.parts_reader.specs.Again.{Same, Shorter, Longer, Again, Rewrites, rewrites}
 
 -- The relation holds of the same bits, and piece by piece.
 pub record Pieces (R : Bits → Bits → Type 0) : Type 0 where
@@ -26,9 +26,6 @@ pub record Pieces (R : Bits → Bits → Type 0) : Type 0 where
 
 pub same-pieces : Pieces Same
 same-pieces = record { same = λ bs. refl; both = λ p q i. p i ++ q i }
-
-pub level-pieces : Pieces Level
-level-pieces = record { same = λ bs. refl; both = λ {a} {b} {c} {d} p q. omega (arith, length-append a c, length-append b d) }
 
 pub shorter-pieces : Pieces Shorter
 shorter-pieces = record {

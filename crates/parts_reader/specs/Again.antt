@@ -11,10 +11,6 @@ use Rattle.bits.specs.Codec.{Codec, got}
 abbrev pub Same : Bits → Bits → Type 0
 Same es bs = es ≡ bs
 
--- as many bits
-abbrev pub Level : Bits → Bits → Type 0
-Level es bs = length es ≡ length bs
-
 -- no more bits, and the same where they are as many; and no fewer
 abbrev pub Shorter : Bits → Bits → Type 0
 Shorter es bs = (length es ≤ length bs) × (length es ≡ length bs → es ≡ bs)

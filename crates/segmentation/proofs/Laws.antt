@@ -26,7 +26,7 @@ natural-there : (n : ℕ) (z : ℤ) → natural-out n z < 2 ^ n → pos (natural
 natural-there n (pos m) h = refl
 natural-there n (negsuc m) h = absurd (omega arith)
 
-natural-law : (n e i : ℕ) → Lawful loose (natural n e i)
+pub natural-law : (n e i : ℕ) → Lawful loose (natural n e i)
 unfolding natural
 natural-law n e i = fieldAs-law n (natural-out n) pos (λ z. Unfit e i (bitLength (natural-out n z))) (λ v h. refl) (natural-there n)
 
