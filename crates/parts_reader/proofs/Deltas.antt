@@ -1,22 +1,21 @@
 -- How a delta is read, and what follows of it.
-use mathlib.Core.Path.{_≡_, refl, subst}
+use mathlib.Core.Path.{_≡_, refl, ap, subst, _∙_}
 use mathlib.Core.List.{List, [], _∷_}
 use mathlib.Core.Bool.{Bool, true, false, cond}
-use Prim.Native.Nat.{ℕ, _<_, _^_}
+use Prim.Native.Nat.{ℕ, _<_, _≤_, _^_}
 use native.Mathlib.Omega.{arith}
 use lib.IntN.{ℤ, pos}
-use lib.ListN.{length}
 use mir.Syntax.{w32}
 use mir.Val.{SFits}
 use Rattle.bits.specs.Bits.{Bits, fromBits}
-use Rattle.bits.specs.Codec.{Got, got, stop, andThen, takeBits, flag, absent, choose, merged, _▷_}
+use Rattle.bits.specs.Codec.{got, andThen, takeBits, flag, absent, choose, merged, _▷_}
 use Rattle.bits.specs.Codes.{su, su-in}
 use Rattle.bits.specs.Answers.{Reading, found}
 use Rattle.bits.specs.declared.answer.Cursor.{Cursor}
 use Rattle.bits.specs.declared.answer.Refusal.{Refusal}
 use Rattle.bits.specs.declared.answer.Step.{Step}
 use Rattle.bits.specs.declared.answer.Step.the-variants.{Next, Refused}
-use Rattle.bits.proofs.Laws.{stop-got, got-value}
+use Rattle.bits.proofs.Laws.{stop-got, then-inv, got-value}
 use Rattle.bits.proofs.Numbers.{from-lt}
 use Rattle.bits.proofs.Leaves.{take-inv}
 use Rattle.bits.proofs.Reading as reading
@@ -48,19 +47,22 @@ module _ (old : ℤ) {xs : List ℕ} {p : Cursor} {u : Step} {b w : Bool} (i : F
   unfolding delta made
   delta-halt e = begin _ (laid (reading.one-of _ _ _ (rw e (read-halt flag _ _ (stopped i e)))))
 
--- a delta fits its variable, if the old one does
-through : (old : ℤ) (g : Got Bits) (bs : Bits) → takeBits 7 bs ≡ g → {z : ℤ} {r : Bits}
-    → andThen {B = ℤ} (andThen {B = Bool × ℤ} (andThen {B = ℤ} g (λ v rest. got (su-in 7 (fromBits v)) rest)) (λ x end. got (true, x) end)) (λ p rest. got (cond (p .0) (p .1) old) rest) ≡ got z r → SFits w32 z
-through old (got v rest) bs e h =
-    let n : length v ≡ 7 = take-inv 7 bs v rest e .0 in
-    let l : fromBits v < 2 ^ 7 = subst (λ (k : ℕ). fromBits v < 2 ^ k) n (from-lt v) in
-    subst (λ (x : ℤ). SFits w32 x) (got-value h) (in-fits 7 (fromBits v) (omega arith) l)
-through old (stop y) bs e h = absurd (stop-got h)
+-- what su(n) reads fits its variable, and so does a delta, if the old one does
+pub su-fits : (n : ℕ) → n ≤ 32 → (bs : Bits) {z : ℤ} {r : Bits} → su n 0 0 .dec bs ≡ got z r → SFits w32 z
+unfolding su
+su-fits n l bs {z} {r} h =
+    let u = then-inv (takeBits n bs) (λ v rest. got (su-in n (fromBits v)) rest) z r h in
+    let k : fromBits (u .0) < 2 ^ n = subst (λ (k : ℕ). fromBits (u .0) < 2 ^ k) (take-inv n bs (u .0) (u .1) (u .2) .0) (from-lt (u .0)) in
+    subst (λ (x : ℤ). SFits w32 x) (got-value (u .3)) (in-fits n (fromBits (u .0)) l k)
 
 delta-bound : (old : ℤ) → SFits w32 old → (bs : Bits) {z : ℤ} {r : Bits} → delta old .dec bs ≡ got z r → SFits w32 z
-unfolding delta merged _▷_ flag choose absent su
+unfolding delta merged _▷_ flag choose absent
 delta-bound old o [] h = absurd (stop-got h)
-delta-bound old o (true ∷ bs) h = through old (takeBits 7 bs) bs refl h
+delta-bound old o (true ∷ bs) {z} {r} h =
+    let u = then-inv (andThen (su 7 0 0 .dec bs) (λ x end. got (true, x) end)) (λ p rest. got (cond (p .0) (p .1) old) rest) z r h in
+    let w = then-inv (su 7 0 0 .dec bs) (λ x end. got (true, x) end) (u .0) (u .1) (u .2) in
+    let e : w .0 ≡ z = ap (λ (p : Bool × ℤ). cond (p .0) (p .1) old) (got-value (w .3)) ∙ got-value (u .3) in
+    subst (λ (x : ℤ). SFits w32 x) e (su-fits 7 (omega arith) bs (w .2))
 delta-bound old o (false ∷ bs) h = subst (λ (x : ℤ). SFits w32 x) (got-value h) o
 
 pub delta-fits : (old : ℤ) → SFits w32 old → {xs : List ℕ} {p q : Cursor} {u : Step} {w v : ℤ} → Fills whole (delta old .dec) xs p u w v → u ≡ Next q → SFits w32 v

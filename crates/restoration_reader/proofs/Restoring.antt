@@ -19,9 +19,10 @@ use Rattle.bits.specs.declared.answer.Step.the-variants.{Next, Refused}
 use Rattle.bits.proofs.Numbers.{from-lt}
 use Rattle.bits.proofs.Bounds.{f-small}
 use Rattle.bits.proofs.Reading as reading
-use Rattle.bits.proofs.Reading.{read-on, read-halt, read-last, read-no}
+use Rattle.bits.proofs.Reading.{read-on, read-halt}
 use Rattle.fill.specs.Fills.{Layout, Way, same, natural, signedBit, made, at, whole, _▸_, Fills, fills}
-use Rattle.fill.proofs.Filling.{Laid, laid, begin, was-it, stopped, then-checked, final, final-at, known-flag-made, group-on}
+use Rattle.fill.proofs.Filling.{Laid, laid, begin, was-it, stopped, final, final-at, known-flag-made, group-on}
+use Rattle.parts_reader.proofs.Packing.{field-done, field-halt}
 use Rattle.parts_reader.proofs.Storing.{part-fillings, part-halts, onward-bit}
 use Rattle.restoration.specs.declared.record.LoopRestorationContext.{LoopRestorationContext}
 use Rattle.restoration.specs.Restoration.{large-in, large-shift, small-in, small-shift, uv-shift, used, chroma-used, uses, kinds, three-planes, no-kinds, no-planes}
@@ -37,12 +38,12 @@ module _ {xs : List ℕ} {p : Cursor} {u : Step} {w v : ℕ} (i : Fills whole (f
     shift-fits = record { sfits = omega (arith, f-small 1 0 0 (was-it i e)) }
 
     pub large-coded : {m : ℤ} → Fills (made natural) (large-shift .dec) xs p (Next q) m (toZ w32 (ofZ w32 (pos (v + 1))))
-    unfolding large-shift made
-    large-coded = begin _ (then-checked _ _ _ (laid (reading.field-as 1 _ large-in _ (read-last _ (was-it i e) (toZ-ofZ shift-fits)))))
+    unfolding large-shift checked made
+    large-coded = field-done 1 large-in i e (toZ-ofZ shift-fits)
 
   pub large-halt : {y : Refusal} → u ≡ Refused y → {m n : ℤ} → Fills (made natural) (large-shift .dec) xs p u m n
-  unfolding large-shift
-  large-halt e = begin _ (then-checked _ _ _ (laid (rw e (reading.field-as 1 _ large-in _ (read-no _ (stopped i e))))))
+  unfolding large-shift checked
+  large-halt e = field-halt 1 large-in i e
 
 pub ruleset large-shifts = (shift-sum, shift-fits, large-coded, large-halt)
 

@@ -9,23 +9,22 @@ use lib.Pow.{pow-mono}
 use mir.Syntax.{w16, w32}
 use mir.Val.{SFits, toZ, ofZ}
 use mir.Facts.{toZ-ofZ}
-use Rattle.bits.specs.Bits.{fromBits}
-use Rattle.bits.specs.Codec.{Codec, takeBits, f, nil}
-use Rattle.bits.specs.Codes.{su, su-in}
+use Rattle.bits.specs.Codec.{Codec, f, nil}
+use Rattle.bits.specs.Codes.{su}
 use Rattle.bits.specs.Answers.{reading, found, moved}
 use Rattle.bits.specs.Elements.{feature-data}
 use Rattle.bits.specs.declared.answer.Cursor.{Cursor}
 use Rattle.bits.specs.declared.answer.Refusal.{Refusal}
 use Rattle.bits.specs.declared.answer.Step.{Step}
 use Rattle.bits.specs.declared.answer.Step.the-variants.{Next, Refused}
-use Rattle.bits.proofs.Bounds.{bits-small, f-small}
+use Rattle.bits.proofs.Bounds.{f-small}
 use Rattle.bits.proofs.Reading as reading
 use Rattle.fill.specs.Fills.{made, natural, whole, Fills, fills}
-use Rattle.fill.proofs.Signs.{in-fits}
 use Rattle.fill.proofs.Filling.{laid, begin, was, went, was-it, stopped}
 use Rattle.parts.specs.Codes.{clip, trimmed}
 use Rattle.parts.specs.Codes as codes
 use Rattle.parts.proofs.Signs.{word}
+use Rattle.parts_reader.proofs.Deltas.{su-fits}
 use Rattle.segmentation.specs.Segmentation.{feature-bits, feature-max, signed-value, unsigned-value}
 use Rattle.segmentation.proofs.Steps.{max-plain}
 use Rattle.segmentation.proofs.Clipping.{neg-fits, neg-is}
@@ -40,11 +39,7 @@ module _ (trim : ℤ → ℤ) (t : Codec ℤ) {xs : List ℕ} {p : Cursor} {u : 
   unfolding trimmed made found moved
   trim-halt {y} e = let r = stopped i e in rw e (fills (record { finds = rw (r .finds) refl; moves = nil }))
 
--- a number with a sign, or without one, that was read fits
-su-fits : (n : ℕ) {xs : List ℕ} {p q : Cursor} {u : Step} {w x : ℤ} → n ≤ 32 → Fills whole (su n 0 0 .dec) xs p u w x → u ≡ Next q → SFits w32 x
-unfolding su
-su-fits n h i e = let r = was (λ bs. su-in n (fromBits bs)) (takeBits n) (was-it i e) in rw (r .made) (in-fits n (fromBits (r .it)) h (bits-small n (r .reads)))
-
+-- a number without a sign that was read
 as-natural : (n e d : ℕ) {xs : List ℕ} {p : Cursor} {u : Step} {w x : ℤ} → Fills (made natural) (f n 0 0 .dec) xs p u w x → Fills whole (codes.natural n e d .dec) xs p u w x
 unfolding codes.natural made
 as-natural n e d (fills r) = begin (codes.natural n e d) (laid (reading.field-as n _ pos _ (reading r)))
@@ -85,11 +80,11 @@ module _ (j bits : ℕ) (b : bits ≡ feature-bits j) (l : bits ≤ 8) {xs : Lis
     pub signed-read : {q : Cursor} (limit r : ℤ) {m : ℤ} → u ≡ Next q → limit ≡ feature-max j → mag limit < 2147483648 → mag r < 2147483648
         → r ≡ clip (toZ w32 (ofZ w32 (pos 0 -ℤ toZ w32 (ofZ w32 limit)))) (toZ w32 (ofZ w32 limit)) (toZ w32 (ofZ w32 x))
         → Fills whole (signed-value (feature-bits j) (feature-max j) 0 .dec) xs p (Next q) m (toZ w32 (ofZ w32 r))
-    unfolding signed-value
+    unfolding signed-value found
     signed-read limit r e h g k d =
         let f : SFits w32 limit = record { sfits = g } in
         let z : pos 0 ≤ℤ limit = rw h (max-plain j) in
-        let v : r ≡ clip (negℤ (feature-max j)) (feature-max j) x = rw (neg-is w32 limit z f, toZ-ofZ f, h, toZ-ofZ (su-fits (bits + 1) (omega arith) coded e)) at d in
+        let v : r ≡ clip (negℤ (feature-max j)) (feature-max j) x = rw (neg-is w32 limit z f, toZ-ofZ f, h, toZ-ofZ (su-fits (bits + 1) (omega arith) _ (was-it coded e .finds))) at d in
         trim-read _ _ signed e (toZ-ofZ (record { sfits = k }) ∙ v)
 
   module _ (i : Fills (made natural) (f (min bits 31) 0 0 .dec) xs p u w x) where
