@@ -1,7 +1,7 @@
 -- Over and back. What is written reads back as it was coded. What is read is written again, if the old deltas are such as su(7) holds: by the same bits,
 -- unless a delta's flag was clear, which is written set and with the old delta, in seven bits more.
-use mathlib.Core.Path.{refl}
-use mathlib.Core.List.{_∷_}
+use mathlib.Core.Path.{_≡_, refl}
+use mathlib.Core.List.{List, _∷_}
 use mathlib.Core.Bool.{true}
 use Prim.Native.Nat.{ℕ, suc, _*_, _-_, _<_, _^_}
 use native.Mathlib.Omega.{arith}
@@ -18,14 +18,19 @@ use Rattle.bits.proofs.Numbers.{length-toBits}
 use Rattle.bits.proofs.Leaves.{field-run}
 use Rattle.parts_reader.specs.Again.{Longer, Rewrites}
 use Rattle.parts_reader.specs.Refusals.{OnlyEnds}
-use Rattle.parts_reader.specs.OverAndBack.{OverAndBack}
+use Rattle.parts_reader.specs.Reading.{read-part}
+use Rattle.parts_reader.specs.OverAndBack.{Over, OverAndBack}
 use Rattle.parts_reader.proofs.Refusing.{endings}
 use Rattle.parts_reader.proofs.Again.{longer-pieces, agains, via-again, array-again, inferredSigned-again}
 use Rattle.parts_reader.proofs.DeltasAgain.{delta-again}
-use Rattle.parts_reader.proofs.RoundTrip.{over-and-back}
+use Rattle.parts_reader.proofs.RoundTrip.{over, over-and-back}
+use Rattle.bits.specs.Answers.{value}
+use Rattle.bits.specs.declared.answer.Answer.the-variants.{Done}
+use Rattle.parts.specs.Written.{Writes}
+use Rattle.loop_filter.specs.declared.record.LoopFilterParams.{LoopFilterParams}
 use Rattle.loop_filter.specs.declared.record.LoopFilterContext.{LoopFilterContext}
-use Rattle.loop_filter.specs.LoopFilter.{chroma-levels, levels, delta, Deltas, ref-deltas, mode-deltas, deltas, delta-update, rest, filter-on, default-deltas, default-refs, default-modes, no-levels, no-rest, filter-off, loop-filter-table, loop-filter-out, loop-filter-in, loop-filter-params}
-use Rattle.loop_filter.proofs.Laws.{loop-filter-law}
+use Rattle.loop_filter.specs.LoopFilter.{chroma-levels, levels, delta, Deltas, ref-deltas, mode-deltas, deltas, delta-update, rest, filter-on, default-deltas, default-refs, default-modes, no-levels, no-rest, filter-off, loop-filter-table, loop-filter-out, loop-filter-in, loop-filter-params, no-old}
+use Rattle.loop_filter.proofs.Laws.{loop-filter-law, old-unwritten}
 
 -- no refusal but that of bits that run out
 delta-ends : (old : ℤ) (e i : ℕ) → OnlyEnds (delta old e i)
@@ -97,5 +102,15 @@ loop-filter-rewrites : (context : LoopFilterContext) (old : Deltas) → Small ol
 unfolding loop-filter-params
 loop-filter-rewrites context old h = via-again longer-pieces loop-filter-out loop-filter-in (loop-filter-table context old) (λ a. refl) (table-rewrites context old h)
 
+-- with any old deltas
+pub loop-filter-over : (context : LoopFilterContext) (old : Deltas) → Over (loop-filter-params context old)
+loop-filter-over context old = over _ (loop-filter-law context old) (loop-filter-ends context old)
+
+-- in the words of the writer, which is lent none
+pub loop-filter-reads-back : (context : LoopFilterContext) (old : Deltas) (p : LoopFilterParams) (place : ℕ) (xs ys : List ℕ) (n : ℕ) → Writes (loop-filter-params context no-old .enc p) place xs (Done n) ys
+    → read-part (loop-filter-params context old) place ys ≡ value (loop-filter-params context old .coded p) (record { at = n })
+loop-filter-reads-back context old p place xs ys n g = loop-filter-over context old .reads-back p place xs ys n (rw (old-unwritten context p old no-old) g)
+
+-- with old deltas that su(7) holds
 pub loop-filter-over-and-back : (context : LoopFilterContext) (old : Deltas) → Small old → OverAndBack Longer (loop-filter-params context old)
 loop-filter-over-and-back context old h = over-and-back _ (loop-filter-law context old) (loop-filter-rewrites context old h) (loop-filter-ends context old)

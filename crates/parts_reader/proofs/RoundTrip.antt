@@ -26,7 +26,7 @@ use Rattle.parts.proofs.Writing.{room}
 use Rattle.parts_reader.specs.Reading.{ended, read-part}
 use Rattle.parts_reader.specs.Again.{Again, Rewrites, rewrites}
 use Rattle.parts_reader.specs.Refusals.{OnlyEnds}
-use Rattle.parts_reader.specs.OverAndBack.{Back, OverAndBack}
+use Rattle.parts_reader.specs.OverAndBack.{Back, Over, OverAndBack}
 use Rattle.parts_reader.proofs.Telling.{inner}
 use Rattle.parts_reader.proofs.Refusing.{too-long, ends-only}
 
@@ -74,9 +74,12 @@ module _ {A : Type 0} {R : Bits → Bits → Type 0} {c : Codec A} (C : Rewrites
       go false p true w h = let z : _≡_ {A = ℕ} 0 1 = cc in absurd (omega arith)
       go false p false w h = read (ltb-false 65536 (length xs) p) (ltb-false (length xs * 8) place w) (c .dec (from xs place)) refl h
 
--- the whole, of any table that keeps the laws
+-- of any table that keeps the laws
+pub over : {A : Type 0} (c : Codec A) → Lawful loose c → OnlyEnds c → Over c
+over c L E = record { too-long = too-long c; ends = λ place xs h e. ends-only c place xs E h e; reads-back = back-read L }
+
 pub over-and-back : {A : Type 0} {R : Bits → Bits → Type 0} (c : Codec A) → Lawful loose c → Rewrites R c → OnlyEnds c → OverAndBack R c
-over-and-back c L W E = record { too-long = too-long c; ends = λ place xs h e. ends-only c place xs E h e; reads-back = back-read L; writes-back = back-written W }
+over-and-back c L W E = record { over = over c L E; writes-back = back-written W }
 
 -- What follows of a value that was read.
 module _ {A : Type 0} {R : Bits → Bits → Type 0} {c : Codec A} {place : ℕ} {xs : List ℕ} {a : A} {q : Cursor} (B : Back R c place xs a q) where

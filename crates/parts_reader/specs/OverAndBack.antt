@@ -26,11 +26,14 @@ pub record Back {A : Type 0} (R : Bits → Bits → Type 0) (c : Codec A) (place
   pub alike : R again front
   pub all : c .coded a ≡ a
 
-pub record OverAndBack {A : Type 0} (R : Bits → Bits → Type 0) (c : Codec A) : Type 0 where
+pub record Over {A : Type 0} (c : Codec A) : Type 0 where
   -- 8 exactly of a slice that is too long; else 4, and nothing else
   pub too-long : (place : ℕ) (xs : List ℕ) → 65536 < length xs → read-part c place xs ≡ refused Long
   pub ends : (place : ℕ) (xs : List ℕ) → length xs ≤ 65536 → {y : Refusal} → read-part c place xs ≡ refused y → y ≡ Ends
   -- whatever the writer accepts is read at its place: what was coded, up to the same bit, whatever stands before and behind
   pub reads-back : (a : A) (place : ℕ) (xs ys : List ℕ) (n : ℕ) → Writes (c .enc a) place xs (Done n) ys → read-part c place ys ≡ value (c .coded a) (record { at = n })
+
+pub record OverAndBack {A : Type 0} (R : Bits → Bits → Type 0) (c : Codec A) : Type 0 where
+  pub over : Over c
   -- whatever is read is written again
   pub writes-back : (place : ℕ) (xs : List ℕ) (a : A) (q : Cursor) → read-part c place xs ≡ value a q → Back R c place xs a q
