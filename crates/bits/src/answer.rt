@@ -7,7 +7,7 @@ ghost use Rattle.bits.specs.Written.{answer_numbers};
 pub const LIMIT: usize = 9223372036854775808;
 
 // A place, in bits from the first byte's top one.
-#[derive(Drop)]
+#[derive(Clone, Copy)]
 pub struct Cursor {
     pub at: usize,
 }

@@ -1,4 +1,6 @@
 // Runs the four codes on lists of values, and prints a row for each: the bits that were written, and the value that they read as; or the refusal.
+#![tactic(auto)]
+
 use bits::answer::*;
 use bits::element::*;
 use libc::STDOUT_FILENO;

@@ -1,4 +1,6 @@
 // Lists sequence headers: each line of standard input is an OBU in hex. A line that begins with `#` is copied; an empty one is passed over.
+#![tactic(auto)]
+
 use lines::input::*;
 use lines::parse::*;
 use listing::list::list;

@@ -1,4 +1,6 @@
 // The codes of 4.10 read into a place.
+#![tactic(auto)]
+
 ghost use Rattle.std.specs.Prelude.{min};
 ghost use Rattle.bits.specs.Codec.{f, flag};
 ghost use Rattle.bits.specs.Codes.{uvlc, su};

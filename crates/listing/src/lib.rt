@@ -1,4 +1,6 @@
 // The fields of one OBU for people to read: a row for each, or the refusal in words.
+#![tactic(auto)]
+
 mod color; // color.rt: 5.5.2
 mod frame; // frame.rt: the frame's size and identifiers
 pub mod list; // list.rt: the public call

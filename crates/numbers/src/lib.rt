@@ -1,5 +1,7 @@
 // A number as a field takes it. One of 16 bits takes the nearest number that it holds, and the record is answered as the one with the number itself; a number
 // below 0 goes into a field without sign as the largest number, which no coded field of a part holds.
+#![tactic(auto)]
+
 ghost use Rattle.std.specs.Prelude.{◌≡◌};
 ghost use Rattle.numbers.specs.Numbers.{signed_at, set_at, natural_at};
 ghost use Rattle.numbers.specs.Held.{int16};

@@ -34,7 +34,7 @@ fn write_string(string: &[u8], out: &mut [u8]) -> Answer
     let Answer::Done(_) = answer else {
         return answer;
     };
-    bytes::copy(string, out);
+    bits::slice::copy(string, out);
     answer
 }
 
@@ -68,8 +68,8 @@ pub fn write_temporal_delimiter(header: ObuHeader, out: &mut [u8]) -> Answer
 pub fn is_temporal_delimiter(input: &[u8]) -> bool
     ensures { Tells result (IsDelimiter input.now) }
 {
-    if check::same(input, b"\x12\x00") {
+    if input == b"\x12\x00" {
         return true;
     }
-    check::same(input, b"\x10")
+    input == b"\x10"
 }

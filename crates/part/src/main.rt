@@ -1,5 +1,7 @@
 // Lists frame parts: each line of standard input is a case line of a part's reader (docs/CASE-LINES.md). A line that begins with `#` is copied; an empty one is
 // passed over.
+#![tactic(auto)]
+
 use cases::fields::Taken;
 use cases::settings::Parsed;
 use cases::signed::all_signed;

@@ -1,4 +1,6 @@
 // The fields of a frame part for people to read: a row for each, or the refusal in words. A part is read first: the conditions of its rows are those of its record.
+#![tactic(auto)]
+
 pub mod cdef_params; // cdef_params.rt: 5.9.19
 pub mod loop_filter_params; // loop_filter_params.rt: 5.9.11
 pub mod lr_params; // lr_params.rt: 5.9.20

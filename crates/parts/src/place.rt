@@ -17,11 +17,11 @@ pub fn lend(out: &[u8], place: u32, near: &mut [u8])
         return;
     }
     if len - first < near.len() {
-        bytes::copy(&out[first..len], near);
+        bits::slice::copy(&out[first..len], near);
         return;
     }
     let stop = first + near.len();
-    bytes::copy(&out[first..stop], near);
+    bits::slice::copy(&out[first..stop], near);
 }
 
 // Where a part begins in that array.
@@ -57,7 +57,7 @@ pub fn settle(s: Step, place: u32, near: &[u8], out: &mut [u8]) -> Answer
             if len * 8 < end {
                 return Answer::Refused(Refusal::Short((first + count) as u32));
             }
-            bytes::copy(&near[..count], &mut out[first..]);
+            bits::slice::copy(&near[..count], &mut out[first..]);
             Answer::Done(end as u32)
         }
     }

@@ -1,5 +1,7 @@
 // The calls for C that build a part's context once more: each function has the contract of the call of its name, and does nothing but call it. The wrong
 // programs in must-fail/ are other bodies: what a contract rules out is tried here, where a try takes seconds.
+#![tactic(auto)]
+
 ghost use Rattle.std.specs.Prelude.{[], ◌∷◌, ◌≡◌};
 ghost use Rattle.sequence_reader.specs.Layouts.{record_of};
 ghost use Rattle.contexts.specs.Contexts.{quantization_context, loop_filter_context, cdef_context, lr_context};

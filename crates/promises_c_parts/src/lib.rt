@@ -1,5 +1,7 @@
 // The calls for C on the frame parts once more: each function has the contract of the call of its name, and does nothing but call it. The wrong programs
 // in must-fail/ are other bodies: what a contract rules out is tried here, where a try takes seconds.
+#![tactic(auto)]
+
 ghost use Rattle.std.specs.Prelude.{◌≡◌};
 ghost use Rattle.quantization_numbers.specs.Numbers.{quantization_walk};
 ghost use Rattle.segmentation_numbers.specs.Numbers.{segmentation_walk};

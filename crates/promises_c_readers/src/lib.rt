@@ -1,5 +1,7 @@
 // The calls for C that read the frame parts once more: each function has the contract of the call of its name, and does nothing but call it. The wrong
 // programs in must-fail/ are other bodies: what a contract rules out is tried here, where a try takes seconds.
+#![tactic(auto)]
+
 ghost use Rattle.std.specs.Prelude.{◌≡◌};
 ghost use Rattle.quantization_reader.specs.Layout.{quantization_place, quantization_by};
 ghost use Rattle.segmentation_reader.specs.Layout.{segmentation_place, segmentation_by};

@@ -1,5 +1,7 @@
 // The public calls on the temporal delimiter once more: each function has the contract of the call of its name, and does nothing but call it. The wrong
 // programs in must-fail/ are other bodies: what a contract rules out is tried here, where a try takes seconds.
+#![tactic(auto)]
+
 ghost use Rattle.obu.specs.Writer.{Writes};
 ghost use Rattle.obu.specs.Delimiter.{temporal_delimiter, IsDelimiter, Tells};
 

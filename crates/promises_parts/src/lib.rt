@@ -1,5 +1,7 @@
 // The writers of the frame parts once more: each function has the contract of the call of its name, and does nothing but call it. The wrong programs in
 // must-fail/ are other bodies: what a contract rules out is tried here, where a try takes seconds.
+#![tactic(auto)]
+
 ghost use Rattle.parts.specs.Written.{Writes};
 ghost use Rattle.quantization.specs.Quantization.{quantization_params};
 ghost use Rattle.segmentation.specs.Segmentation.{segmentation_params};

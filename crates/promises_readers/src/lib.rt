@@ -1,5 +1,7 @@
 // The readers of the frame parts once more: each function has the contract of the call of its name, and does nothing but call it. The wrong programs in
 // must-fail/ are other bodies: what a contract rules out is tried here, where a try takes seconds.
+#![tactic(auto)]
+
 ghost use Rattle.std.specs.Prelude.{replicate, pos};
 ghost use Rattle.parts_reader.specs.Reading.{Tells};
 ghost use Rattle.quantization.specs.Quantization.{quantization_params};

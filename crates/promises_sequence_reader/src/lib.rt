@@ -1,5 +1,7 @@
 // The public reader of the sequence header, and the payload's call, once more: each function has the contract of the call of its name, and does nothing
 // but call it. The wrong programs in must-fail/ are other bodies.
+#![tactic(auto)]
+
 ghost use Rattle.sequence_reader.specs.Reader.{Answers};
 ghost use Rattle.sequence_reader.specs.Payload.{Hands};
 

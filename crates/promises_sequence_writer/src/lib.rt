@@ -1,5 +1,7 @@
 // The public writer of the sequence header once more: the function has its contract, and does nothing but call it. The wrong programs in must-fail/ are
 // other bodies.
+#![tactic(auto)]
+
 ghost use Rattle.obu.specs.Writer.{Writes};
 ghost use Rattle.sequence.specs.Sequence.{sequence_header};
 

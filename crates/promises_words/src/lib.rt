@@ -1,4 +1,6 @@
 // The call that explains an answer once more, with its contract: it does nothing but call it. The wrong programs in must-fail/ are other bodies.
+#![tactic(auto)]
+
 ghost use Rattle.std.specs.Prelude.{◌≡◌, length};
 ghost use Rattle.words.specs.Sentence.{explained, cut};
 

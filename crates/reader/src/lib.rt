@@ -1,4 +1,6 @@
 // The bit reader: the codes of 4.10 read. Each step answers a value and the place behind it, or the refusal.
+#![tactic(auto)]
+
 mod number; // number.rt: the values of codes
 
 ghost use Rattle.std.specs.Prelude.{◌≡◌, ◌++◌, min, ◌+◌, ◌-◌, ◌*◌, ◌/◌, ◌%◌, ◌^◌, ◌<◌, ◌≤◌};

@@ -1,4 +1,6 @@
 // Answers case lines: each line of standard input gets a line of standard output (docs/CASE-LINES.md).
+#![tactic(auto)]
+
 mod call;
 mod show;
 

@@ -1,4 +1,6 @@
 // 5.9.14 from numbers: the record that they are, and the part that it writes.
+#![tactic(auto)]
+
 pub mod place; // place.rt: where each number stands
 pub mod record; // record.rt: the record from its numbers
 

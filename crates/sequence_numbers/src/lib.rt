@@ -1,4 +1,6 @@
 // 5.5.1 and 5.6 from numbers: the records that they are, and the OBUs that they write.
+#![tactic(auto)]
+
 mod header; // header.rt: the record of the OBU header
 mod points; // points.rt: the operating points
 mod record; // record.rt: the sequence header's record

@@ -1,4 +1,6 @@
 // The sequence header OBU (5.5), read into the record's numbers.
+#![tactic(auto)]
+
 mod body; // body.rt: 5.5.1, whole
 mod color; // color.rt: 5.5.2
 mod frame; // frame.rt: the frame's size and identifiers

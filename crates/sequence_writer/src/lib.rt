@@ -1,4 +1,6 @@
 // The sequence header OBU (5.5), written.
+#![tactic(auto)]
+
 mod optional; // optional.rt: fields that are coded or inferred
 pub mod write; // write.rt: 5.5.1, whole
 mod write_color; // write_color.rt: 5.5.2

@@ -162,8 +162,8 @@ fn write_strings(first: &[u8], second: &[u8], out: &mut [u8]) -> Answer
     let Answer::Done(_) = answer else {
         return answer;
     };
-    bytes::copy(first, out);
-    bytes::copy(second, &mut out[length..]);
+    bits::slice::copy(first, out);
+    bits::slice::copy(second, &mut out[length..]);
     answer
 }
 

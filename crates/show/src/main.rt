@@ -1,4 +1,6 @@
 // Shows the OBU that stands on standard input: its bytes in hex, and a row for each field, or the refusal in words.
+#![tactic(auto)]
+
 ghost use Rattle.std.specs.Prelude.{◌<◌, ◌≤◌};
 
 use bits::answer::Refusal;

@@ -1,4 +1,6 @@
 // A record to start from, which the writer accepts: an ordinary video.
+#![tactic(auto)]
+
 ghost use Rattle.std.specs.Prelude.{◌≡◌, ◌-◌};
 ghost use Rattle.bits.specs.Widths.{bit_length};
 ghost use Rattle.sequence_reader.specs.Layouts.{numbers_of};

@@ -1,4 +1,6 @@
 // An answer in words.
+#![tactic(auto)]
+
 mod names; // names.rt: the elements that a refusal names
 pub mod put; // put.rt: text into a lent slice
 mod sentence; // sentence.rt: the sentence of an answer
@@ -23,7 +25,7 @@ fn cut(s: &[u8], text: &mut [u8])
         return;
     }
     let n = smaller(s.len(), text.len() - 1);
-    bytes::copy(&s[..n], text);
+    bits::slice::copy(&s[..n], text);
     text[n] = 0;
 }
 

@@ -1,4 +1,6 @@
 // The bit writer: the codes of 4.10 written, and checks. Each step answers the next place or the refusal.
+#![tactic(auto)]
+
 pub mod number; // number.rt: high bits, and signs
 pub mod store; // store.rt: bits stored in bytes
 

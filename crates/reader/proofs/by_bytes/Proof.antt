@@ -3,10 +3,10 @@ use Rattle.reader.proofs.Fields.{Fielded, fielded_all, fielded_on, fielded_end, 
 use Rattle.reader.proofs.by_bytes.Statement.{statement}
 use Rattle.reader.proofs.by_bytes.Tie as tie
 
-abbrev invariant-loop : tie.invariant-loop
+abbrev invariant-loop : tie.invariant-loop-left
 invariant-loop s at n left₀ at₀ value₀ left at' value = Fielded s at n value left at'
 
-abbrev decreases-loop : tie.decreases-loop
+abbrev decreases-loop : tie.decreases-loop-left
 decreases-loop s at n left₀ at₀ value₀ left at' value = left
 
 pub by_bytes_spec : {M : Type 1} → statement M

@@ -4,10 +4,10 @@ use Rattle.reader.proofs.Counting.{Sized, sized_none, sized_stop, sized_last, si
 use Rattle.reader.proofs.leb128.Statement.{statement}
 use Rattle.reader.proofs.leb128.Tie as tie
 
-abbrev invariant-loop : tie.invariant-loop
+abbrev invariant-loop : tie.invariant-loop-byte
 invariant-loop s at₀ k₀ unit₀ low₀ at k unit low = Sized s at₀ k at unit low
 
-abbrev decreases-loop : tie.decreases-loop
+abbrev decreases-loop : tie.decreases-loop-byte
 decreases-loop s at₀ k₀ unit₀ low₀ at k unit low = 8 - k
 
 pub leb128_spec : {M : Type 1} → statement M

@@ -4,10 +4,10 @@ use Rattle.reader.proofs.Counting.{Counted, counted_none, counted_stop, counted-
 use Rattle.reader.proofs.unary.Statement.{statement}
 use Rattle.reader.proofs.unary.Tie as tie
 
-abbrev invariant-loop : tie.invariant-loop
+abbrev invariant-loop : tie.invariant-loop-one
 invariant-loop s element index at₀ k₀ at k = Counted element index s at₀ k at
 
-abbrev decreases-loop : tie.decreases-loop
+abbrev decreases-loop : tie.decreases-loop-one
 decreases-loop s element index at₀ k₀ at k = 31 - k
 
 pub unary_spec : {M : Type 1} → statement M

@@ -5,10 +5,10 @@ use Rattle.reader.proofs.Windows.{window_low}
 use Rattle.reader.proofs.window.Statement.{statement}
 use Rattle.reader.proofs.window.Tie as tie
 
-abbrev invariant-loop : tie.invariant-loop
+abbrev invariant-loop : tie.invariant-loop-done
 invariant-loop s i m v₀ j₀ k₀ v j k = Window m s i v k j
 
-abbrev decreases-loop : tie.decreases-loop
+abbrev decreases-loop : tie.decreases-loop-done
 decreases-loop s i m v₀ j₀ k₀ v j k = m - k
 
 pub window_spec : {M : Type 1} → statement M

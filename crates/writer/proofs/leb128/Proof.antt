@@ -5,16 +5,16 @@ use Rattle.bits.specs.Codes.{leb128}
 use Rattle.writer.proofs.leb128.Statement.{statement}
 use Rattle.writer.proofs.leb128.Tie as tie
 
-abbrev invariant-loop : tie.invariant-loop
+abbrev invariant-loop : tie.invariant-loop-value
 invariant-loop out₀ n c₀ n₀ out c n' = Goes ((leb128 8).enc n) c₀ out₀ n' c out
 
-abbrev decreases-loop : tie.decreases-loop
+abbrev decreases-loop : tie.decreases-loop-value
 decreases-loop out₀ n c₀ n₀ out c n' = n'
 
-returns : tie.Need-returns invariant-loop decreases-loop
+returns : tie.Need-returns-in_default invariant-loop decreases-loop
 returns c = search goes_halt
 
-returns-2 : tie.Need-returns-2 invariant-loop decreases-loop
+returns-2 : tie.Need-returns invariant-loop decreases-loop
 returns-2 c = search goes_end
 
 pub leb128_spec : {M : Type 1} → statement M

@@ -3,10 +3,10 @@ use Rattle.writer.proofs.Chunk.{Stores, stores_all, stores_past, stores_far, sto
 use Rattle.writer.proofs.store.put_bits.Statement.{statement}
 use Rattle.writer.proofs.store.put_bits.Tie as tie
 
-abbrev invariant-loop : tie.invariant-loop
+abbrev invariant-loop : tie.invariant-loop-left
 invariant-loop out₀ at n value place₀ left₀ out place left = Stores out₀ at n value out place left
 
-abbrev decreases-loop : tie.decreases-loop
+abbrev decreases-loop : tie.decreases-loop-left
 decreases-loop out₀ at n value place₀ left₀ out place left = left
 
 pub put_bits_spec : {M : Type 1} → statement M

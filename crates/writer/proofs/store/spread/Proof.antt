@@ -3,10 +3,10 @@ use Rattle.writer.proofs.Windows.{Spreads, spreads_all, spreads_some, spreads_sh
 use Rattle.writer.proofs.store.spread.Statement.{statement}
 use Rattle.writer.proofs.store.spread.Tie as tie
 
-abbrev invariant-loop : tie.invariant-loop
+abbrev invariant-loop : tie.invariant-loop-left
 invariant-loop out₀ i w j₀ left₀ out j left = Spreads out₀ i w out j left
 
-abbrev decreases-loop : tie.decreases-loop
+abbrev decreases-loop : tie.decreases-loop-left
 decreases-loop out₀ i w j₀ left₀ out j left = left
 
 pub spread_spec : {M : Type 1} → statement M

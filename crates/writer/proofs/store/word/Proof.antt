@@ -5,10 +5,10 @@ use Rattle.writer.proofs.Windows.{word_low, word_end}
 use Rattle.writer.proofs.store.word.Statement.{statement}
 use Rattle.writer.proofs.store.word.Tie as tie
 
-abbrev invariant-loop : tie.invariant-loop
+abbrev invariant-loop : tie.invariant-loop-done
 invariant-loop s i v₀ j₀ k₀ v j k = Window 4 s i v k j
 
-abbrev decreases-loop : tie.decreases-loop
+abbrev decreases-loop : tie.decreases-loop-done
 decreases-loop s i v₀ j₀ k₀ v j k = 4 - k
 
 pub word_spec : {M : Type 1} → statement M
