@@ -63,9 +63,9 @@ module _ (es xs : List ℕ) (few : length es ≤ 65536) {a : Answer} (q : a ≡ 
   unfolding written
   string_ended E h = let e = octets-run es E in writes (told ∙ rw e) (rw (e, ← told, h))
 
-  pub string_filled : AreBytes es → AreBytes xs → {n : ℕ} {ys : List ℕ} → a ≡ Done n → ys ≡ take (length es) es ++ drop (length es) xs → Writes (octets es) xs a ys
+  pub string_filled : AreBytes es → AreBytes xs → {n : ℕ} {ys : List ℕ} → a ≡ Done n → ys ≡ es ++ drop (length es) xs → Writes (octets es) xs a ys
   unfolding written
   string_filled E X h k =
       let e = octets-run es E in
       let r = room h in
-      writes (told ∙ rw e) (rw (e, ← told, h) (k ∙ rw (take-length es) (sym (put-bytes xs es E X r.0 r.1))))
+      writes (told ∙ rw e) (rw (e, ← told, h) (k ∙ sym (put-bytes xs es E X r.0 r.1)))

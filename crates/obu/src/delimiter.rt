@@ -68,8 +68,8 @@ pub fn write_temporal_delimiter(header: ObuHeader, out: &mut [u8]) -> Answer
 pub fn is_temporal_delimiter(input: &[u8]) -> bool
     ensures { Tells result (IsDelimiter input.now) }
 {
-    if input == b"\x12\x00" {
+    if input == b"\x12\x00".as_slice() {
         return true;
     }
-    input == b"\x10"
+    input == b"\x10".as_slice()
 }

@@ -1,5 +1,5 @@
 // The OBU header, as the Rust has it; obu_type is its number.
-#[derive(Drop)]
+#[derive(Clone, Copy)]
 pub struct ObuHeader {
     pub obu_type: u32,
     pub extension_flag: bool,

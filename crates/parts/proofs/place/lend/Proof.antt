@@ -3,7 +3,7 @@ use mathlib.Core.List.{List, ◌++◌}
 use Prim.Native.Nat.{ℕ, ◌+◌, ◌-◌, ◌/◌, ◌≤◌, ◌<◌}
 use native.Mathlib.Omega.{arith}
 use lib.ListN.{length, take, drop, length-drop, drop_of_length-le}
-use lib.Seq.{take-length, drop-length, take_all, take-nil, length-take-le}
+use lib.Seq.{drop-length, take_all, take-nil, length-take-le}
 use borrow.Author.Rules.{rules}
 use Rattle.parts.specs.Settled.{lent}
 use Rattle.parts.proofs.place.lend.Statement.{statement}
@@ -17,9 +17,9 @@ module _ (xs : List ℕ) (place : ℕ) (ns : List ℕ) where
       rw (drop_of_length-le xs {i = place / 8} h, z, take-nil (length ns))
 
   -- k bytes copied
-  module _ (k : ℕ) {ys : List ℕ} (q : ys ≡ take (length (take k (drop (place / 8) xs))) (take k (drop (place / 8) xs)) ++ drop (length (take k (drop (place / 8) xs))) ns) where
+  module _ (k : ℕ) {ys : List ℕ} (q : ys ≡ take k (drop (place / 8) xs) ++ drop (length (take k (drop (place / 8) xs))) ns) where
     copied : k ≤ length xs - place / 8 → ys ≡ take k (drop (place / 8) xs) ++ drop k ns
-    copied h = let n : length (take k (drop (place / 8) xs)) ≡ k = length-take-le k (drop (place / 8) xs) (omega (arith, length-drop (place / 8) xs)) in rw (take-length (take k (drop (place / 8) xs)), n) at q
+    copied h = let n : length (take k (drop (place / 8) xs)) ≡ k = length-take-le k (drop (place / 8) xs) (omega (arith, length-drop (place / 8) xs)) in rw n at q
 
     -- all that there are
     rest : length xs - place / 8 < length ns → k ≡ length xs - place / 8 → ys ≡ lent xs place ns

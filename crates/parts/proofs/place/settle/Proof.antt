@@ -27,11 +27,11 @@ room : (place n : ℕ) (ns xs : List ℕ) → place / 8 * 8 + n ≤ length xs * 
 room place n ns xs h = omega (arith, length-take ((n + 7) / 8) ns, length-take (length xs - place / 8) (drop (place / 8) xs), length-drop (place / 8) xs)
 
 -- the array's first k bytes, copied over the slice's from the i-th on
-copied : (i k : ℕ) (ns xs : List ℕ) {zs : List ℕ} → k ≤ length ns → zs ≡ take (length (take k ns)) (take k ns) ++ drop (length (take k ns)) (take (length xs - i) (drop i xs))
+copied : (i k : ℕ) (ns xs : List ℕ) {zs : List ℕ} → k ≤ length ns → zs ≡ take k ns ++ drop (length (take k ns)) (take (length xs - i) (drop i xs))
     → put_mid i (length xs - i) xs zs ≡ take i xs ++ (take k ns ++ drop k (drop i xs))
 copied i k ns xs {zs} h z =
     let n : length xs - i ≡ length (drop i xs) = sym (length-drop i xs) in
-    let y : zs ≡ take k ns ++ drop k (drop i xs) = rw (take-length (take k ns), length-take-le k ns h, n, take-length (drop i xs)) at z in
+    let y : zs ≡ take k ns ++ drop k (drop i xs) = rw (length-take-le k ns h, n, take-length (drop i xs)) at z in
     rw (n, drop-length (drop i xs), y, append-nil)
 
 module _ (s : Step) (place : ℕ) (ns xs : List ℕ) where
@@ -64,7 +64,7 @@ module _ (s : Step) (place : ℕ) (ns xs : List ℕ) where
             settles (rw (le-ltb 65536 (length xs) h, e, le-ltb 65536 (length ns) l, f, g)) (rw (le-ltb 65536 (length xs) h, e, le-ltb 65536 (length ns) l, f, g))
 
         done : {zs : List ℕ} → place / 8 * 8 + c.at ≤ length xs * 8
-            → zs ≡ take (length (take (whole_bytes c.at) ns)) (take (whole_bytes c.at) ns) ++ drop (length (take (whole_bytes c.at) ns)) (take (length xs - place / 8) (drop (place / 8) xs))
+            → zs ≡ take (whole_bytes c.at) ns ++ drop (length (take (whole_bytes c.at) ns)) (take (length xs - place / 8) (drop (place / 8) xs))
             → Settles s place ns xs (Done (place / 8 * 8 + c.at)) (put_mid (place / 8) (length xs - place / 8) xs zs)
         unfolding settled
         done r z =

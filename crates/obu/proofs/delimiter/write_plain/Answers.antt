@@ -6,8 +6,7 @@ use borrow.Author.Rules.{rules}
 use Rattle.bits.specs.declared.answer.Answer.{Answer}
 use Rattle.obu.specs.Writer.{Writes}
 use Rattle.obu.specs.Delimiter.{delimiter_bytes, octets}
-use Rattle.obu.proofs.delimiter.write_plain.Statement.{statement}
-use Rattle.obu.proofs.delimiter.write_plain.Tie as tie
+use Rattle.obu.proofs.delimiter.write_plain.Goals as goal
 
 module _ {sized : Bool} {xs ys : List ℕ} {a : Answer} where
   with_size : sized ≡ true → Writes (octets (0x12 ∷ 0x00 ∷ [])) xs a ys → Writes (octets (delimiter_bytes sized)) xs a ys
@@ -16,9 +15,8 @@ module _ {sized : Bool} {xs ys : List ℕ} {a : Answer} where
   without : sized ≡ false → Writes (octets (0x10 ∷ [])) xs a ys → Writes (octets (delimiter_bytes sized)) xs a ys
   without h w = rw h w
 
-pub write_plain_spec : {M : Type 1} → statement M
-write_plain_spec =
-    tie.close
-    (tie.spec
-    (λ c. search rules) (λ c κs. search rules) (λ c. search rules) (λ c. search with_size)
-    (λ c. search rules) (λ c κs. search rules) (λ c. search rules) (λ c. search without))
+pub returns-then-has_size_field : goal.returns-then-has_size_field
+returns-then-has_size_field c = search with_size
+
+pub returns : goal.returns
+returns c = search without
