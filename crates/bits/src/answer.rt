@@ -13,7 +13,7 @@ pub struct Cursor {
 }
 
 // Why nothing was written, or nothing read.
-#[derive(Drop)]
+#[derive(Clone, Copy)]
 pub enum Refusal {
     // An inconsistent element, or a value that the rules forbid: element, index.
     Inconsistent(u8, u8),
@@ -34,7 +34,7 @@ pub enum Refusal {
 }
 
 // What a public writer answers.
-#[derive(Drop)]
+#[derive(Clone, Copy)]
 pub enum Answer {
     // All was written: so many bytes; of a part, the bit behind it.
     Done(u32),
@@ -43,7 +43,7 @@ pub enum Answer {
 }
 
 // An answer as document 01 tables it.
-#[derive(Drop)]
+#[derive(Clone, Copy)]
 pub struct Numbered {
     pub number: u32,
     pub first: u32,
@@ -52,32 +52,32 @@ pub struct Numbered {
 }
 
 // A step with no value of its own: every step of a writer.
-#[derive(Drop)]
+#[derive(Clone, Copy)]
 pub enum Step {
     Next(Cursor),
     Refused(Refusal),
 }
 
 // A number was read, and the place behind it.
-#[derive(Drop)]
+#[derive(Clone, Copy)]
 pub enum GotNumber {
     Value(u32, Cursor),
     Refused(Refusal),
 }
 
-#[derive(Drop)]
+#[derive(Clone, Copy)]
 pub enum GotFlag {
     Value(bool, Cursor),
     Refused(Refusal),
 }
 
-#[derive(Drop)]
+#[derive(Clone, Copy)]
 pub enum GotSigned {
     Value(i32, Cursor),
     Refused(Refusal),
 }
 
-#[derive(Drop)]
+#[derive(Clone, Copy)]
 pub enum GotSize {
     Value(u64, Cursor),
     Refused(Refusal),

@@ -1,6 +1,6 @@
 // 5.9.19 cdef_params: its record, and what it goes by.
 
-#[derive(Drop)]
+#[derive(Clone, Copy)]
 pub struct CdefParams {
     pub cdef_bits: u32,
     pub cdef_damping: u32,
@@ -11,7 +11,7 @@ pub struct CdefParams {
 }
 
 // What the headers say: the planes are 1 if mono_chrome, and any other number counts as 3.
-#[derive(Drop)]
+#[derive(Clone, Copy)]
 pub struct CdefContext {
     pub coded_lossless: bool,
     pub allow_intrabc: bool,

@@ -1,7 +1,7 @@
 // 5.9.11 loop_filter_params: its record, and what it goes by.
 
 // The deltas have 32 bits, so that the refusal of one says the width that the number needs.
-#[derive(Drop)]
+#[derive(Clone, Copy)]
 pub struct LoopFilterParams {
     pub loop_filter_level: [u32; 4],
     pub loop_filter_sharpness: u32,
@@ -12,7 +12,7 @@ pub struct LoopFilterParams {
 }
 
 // What the headers say: the planes are 1 if mono_chrome, and any other number counts as 3.
-#[derive(Drop)]
+#[derive(Clone, Copy)]
 pub struct LoopFilterContext {
     pub coded_lossless: bool,
     pub allow_intrabc: bool,

@@ -14,7 +14,7 @@ use bits::element::OBU_TYPE;
 use reader::*;
 
 // A header was read, and the place behind it.
-#[derive(Drop)]
+#[derive(Clone, Copy)]
 pub enum GotHeader {
     Value(ObuHeader, Cursor),
     Refused(Refusal),

@@ -1,6 +1,6 @@
 // 5.9.12 quantization_params: its record, and what it goes by.
 
-#[derive(Drop)]
+#[derive(Clone, Copy)]
 pub struct QuantizationParams {
     pub base_q_idx: u32,
     pub delta_q_y_dc: i8,
@@ -16,7 +16,7 @@ pub struct QuantizationParams {
 }
 
 // The deltas apart, as numbers of 32 bits: what i8 does not hold is refused too, and the refusal says the width that the number needs.
-#[derive(Drop)]
+#[derive(Clone, Copy)]
 pub struct QuantizationDeltas {
     pub y_dc: i32,
     pub u_dc: i32,
@@ -26,7 +26,7 @@ pub struct QuantizationDeltas {
 }
 
 // What the sequence header says: the planes are 1 if mono_chrome, and any other number counts as 3.
-#[derive(Drop)]
+#[derive(Clone, Copy)]
 pub struct QuantizationContext {
     pub planes: u32,
     pub separate_uv_delta_q: bool,

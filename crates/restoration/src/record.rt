@@ -1,7 +1,7 @@
 // 5.9.20 lr_params: its record, and what it goes by.
 
 // The kinds are the coded ones: none 0, switchable 1, Wiener 2, self-guided 3.
-#[derive(Drop)]
+#[derive(Clone, Copy)]
 pub struct LoopRestorationParams {
     pub frame_restoration_type: [u32; 3],
     pub uses_lr: bool,
@@ -11,7 +11,7 @@ pub struct LoopRestorationParams {
 }
 
 // What the headers say: the planes are 1 if mono_chrome, and any other number counts as 3.
-#[derive(Drop)]
+#[derive(Clone, Copy)]
 pub struct LoopRestorationContext {
     pub all_lossless: bool,
     pub allow_intrabc: bool,

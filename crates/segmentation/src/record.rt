@@ -1,7 +1,7 @@
 // 5.9.14 segmentation_params: its record, and what it goes by.
 
 // Eight features of eight segments, segment by segment.
-#[derive(Drop)]
+#[derive(Clone, Copy)]
 pub struct SegmentationParams {
     pub segmentation_enabled: bool,
     pub segmentation_update_map: bool,
@@ -12,7 +12,7 @@ pub struct SegmentationParams {
 }
 
 // What the frame header says: 7 is no primary reference, and any other number is one.
-#[derive(Drop)]
+#[derive(Clone, Copy)]
 pub struct SegmentationContext {
     pub primary_ref_frame: u32,
 }

@@ -5,7 +5,7 @@ ghost use Rattle.sequence.specs.Color.{plane_count};
 use obu::header::ObuHeader;
 
 // 5.5.3
-#[derive(Drop)]
+#[derive(Clone, Copy)]
 pub struct TimingInfo {
     pub num_units_in_display_tick: u32,
     pub time_scale: u32,
@@ -14,7 +14,7 @@ pub struct TimingInfo {
 }
 
 // 5.5.4
-#[derive(Drop)]
+#[derive(Clone, Copy)]
 pub struct DecoderModelInfo {
     pub buffer_delay_length_minus_1: u32,
     pub num_units_in_decoding_tick: u32,
@@ -23,7 +23,7 @@ pub struct DecoderModelInfo {
 }
 
 // One operating point of 5.5.1, with its operating parameters (5.5.5).
-#[derive(Drop)]
+#[derive(Clone, Copy)]
 pub struct OperatingPoint {
     pub idc: u32,
     pub seq_level_idx: u32,
@@ -50,7 +50,7 @@ pub const NO_POINT: OperatingPoint = OperatingPoint {
 };
 
 // 5.5.2
-#[derive(Drop)]
+#[derive(Clone, Copy)]
 pub struct ColorConfig {
     pub high_bitdepth: bool,
     pub twelve_bit: bool,
@@ -75,7 +75,7 @@ pub fn plane_count(mono_chrome: bool) -> u32
 }
 
 // 5.5.1
-#[derive(Drop)]
+#[derive(Clone, Copy)]
 pub struct SequenceHeaderObu {
     pub obu_header: ObuHeader,
     pub seq_profile: u32,

@@ -9,7 +9,7 @@ use bits::answer::*;
 use obu::read::*;
 use reader::rest;
 
-#[derive(Drop)]
+#[derive(Clone, Copy)]
 pub enum Outcome {
     // The record was read.
     Done,
@@ -18,7 +18,7 @@ pub enum Outcome {
 }
 
 // A part of the input: its first byte, and how many it has.
-#[derive(Drop)]
+#[derive(Clone, Copy)]
 pub struct Part {
     pub place: usize,
     pub size: usize,

@@ -206,19 +206,19 @@ module _ {A : Type 0} (p : Codec A) (v : A) {ps : List ℕ} {u : Step} {e : Curs
       writes_as (join_strings t p h v k _ _ _ _ x.0 y.0 (omega (arith, b, y.1, y.2, b8)) X.0 X.1 Y.0 Y.1) w
 
 -- Two strings written one behind the other
-two_copies : (fs ss xs ys zs : List ℕ) → ys ≡ take (length fs) fs ++ drop (length fs) xs → zs ≡ take (length ss) ss ++ drop (length ss) (take (length ys - length fs) (drop (length fs) ys))
-    → put_mid (length fs) (length ys - length fs) ys zs ≡ take (length (fs ++ ss)) (fs ++ ss) ++ drop (length (fs ++ ss)) xs
+two_copies : (fs ss xs ys zs : List ℕ) → ys ≡ fs ++ drop (length fs) xs → zs ≡ ss ++ drop (length ss) (take (length ys - length fs) (drop (length fs) ys))
+    → put_mid (length fs) (length ys - length fs) ys zs ≡ fs ++ ss ++ drop (length (fs ++ ss)) xs
 two_copies fs ss xs ys zs k m =
     let n = length fs in
-    let y : ys ≡ fs ++ drop n xs = k ∙ ap (λ (l : List ℕ). l ++ drop n xs) (take-length fs) in
+    let y : ys ≡ fs ++ drop n xs = k in
     let a : take n ys ≡ fs = ap (take n) y ∙ take_at fs (drop n xs) n refl in
     let b : drop n ys ≡ drop n xs = ap (drop n) y ∙ drop_at fs (drop n xs) n refl in
     let c : length ys - n ≡ length (drop n xs) = omega (arith, ap length y, length-append fs (drop n xs)) in
-    let z : zs ≡ ss ++ drop (length ss) (drop n xs) = rw (b, c, take-length (drop n xs), take-length ss) at m in
-    rw (a, b, c, z, take-length, drop-length, length-append, append-nil) (sym (append_assoc fs ss (drop (length ss) (drop n xs))) ∙ ap (λ (l : List ℕ). fs ++ ss ++ l) (drop-drop (length ss) n xs))
+    let z : zs ≡ ss ++ drop (length ss) (drop n xs) = rw (b, c, take-length (drop n xs)) at m in
+    rw (a, b, c, z, drop-length, length-append, append-nil) (sym (append_assoc fs ss (drop (length ss) (drop n xs))) ∙ ap (λ (l : List ℕ). fs ++ ss ++ l) (drop-drop (length ss) n xs))
 
-pub first_kept : (fs xs ys : List ℕ) → ys ≡ take (length fs) fs ++ drop (length fs) xs → length fs ≤ length ys
-first_kept fs xs ys k = omega (arith, ap length k, length-append (take (length fs) fs) (drop (length fs) xs), ap length (take-length fs))
+pub first_kept : (fs xs ys : List ℕ) → ys ≡ fs ++ drop (length fs) xs → length fs ≤ length ys
+first_kept fs xs ys k = omega (arith, ap length k, length-append fs (drop (length fs) xs))
 
 module _ (fs ss xs : List ℕ) (few : length fs + length ss ≤ 65536) {a : Answer} (q : a ≡ verdict (Next (record { at = (length fs + length ss) * 8 })) (length xs)) where
   both : length (fs ++ ss) ≤ 65536
@@ -233,14 +233,13 @@ module _ (fs ss xs : List ℕ) (few : length fs + length ss ≤ 65536) {a : Answ
   pub first_room : {n : ℕ} → a ≡ Done n → length fs ≤ length xs
   first_room h = omega (arith, room h)
 
-  pub second_room : {n : ℕ} → a ≡ Done n → (ys : List ℕ) → ys ≡ take (length fs) fs ++ drop (length fs) xs → length ss ≤ length (take (length ys - length fs) (drop (length fs) ys))
+  pub second_room : {n : ℕ} → a ≡ Done n → (ys : List ℕ) → ys ≡ fs ++ drop (length fs) xs → length ss ≤ length (take (length ys - length fs) (drop (length fs) ys))
   second_room h ys k =
       omega (
         arith,
         room h,
         ap length k,
-        length-append (take (length fs) fs) (drop (length fs) xs),
-        ap length (take-length fs),
+        length-append fs (drop (length fs) xs),
         length-drop (length fs) xs,
         length-drop (length fs) ys,
         length-take (length ys - length fs) (drop (length fs) ys),
@@ -249,6 +248,6 @@ module _ (fs ss xs : List ℕ) (few : length fs + length ss ≤ 65536) {a : Answ
   pub strings_ended : AreBytes fs → AreBytes ss → {r : Refusal} → a ≡ Refused r → Writes (octets (fs ++ ss)) xs a xs
   strings_ended F S h = string_ended (fs ++ ss) xs both told (are_append fs ss F S) h
 
-  pub strings_filled : AreBytes fs → AreBytes ss → AreBytes xs → {n : ℕ} → a ≡ Done n → (ys zs : List ℕ) → ys ≡ take (length fs) fs ++ drop (length fs) xs
-      → zs ≡ take (length ss) ss ++ drop (length ss) (take (length ys - length fs) (drop (length fs) ys)) → Writes (octets (fs ++ ss)) xs a (put_mid (length fs) (length ys - length fs) ys zs)
+  pub strings_filled : AreBytes fs → AreBytes ss → AreBytes xs → {n : ℕ} → a ≡ Done n → (ys zs : List ℕ) → ys ≡ fs ++ drop (length fs) xs
+      → zs ≡ ss ++ drop (length ss) (take (length ys - length fs) (drop (length fs) ys)) → Writes (octets (fs ++ ss)) xs a (put_mid (length fs) (length ys - length fs) ys zs)
   strings_filled F S X h ys zs k m = string_filled (fs ++ ss) xs both told (are_append fs ss F S) X h (two_copies fs ss xs ys zs k m)

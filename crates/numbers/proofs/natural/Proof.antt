@@ -7,4 +7,4 @@ pub natural_spec : {M : Type 1} → statement M
 natural_spec =
     tie.close
     (tie.spec
-    (λ c κs. search rules) (λ c. search natural_neg) (λ c. natural_cast c.before.number.result (search rules) c.before.number.ensures c.if1.false) (λ c. search natural_is))
+    (λ c κs. search rules) (λ c. search natural_neg) (λ c. natural_cast c.before.number-x.result (search rules) c.before.number-x.ensures c.if-x-lt0.false) (λ c. search natural_is))

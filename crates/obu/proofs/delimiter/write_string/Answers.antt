@@ -10,8 +10,7 @@ copy-requires c = search string_room
 
 pub returns : goal.returns
 returns c =
-    search
-    (
+    search (
       string_filled,
       are_bytes c.args.string.now (λ i. omega (arith, c.type_inv.string i)),
       are_bytes c.args.out.now (λ i. omega (arith, c.slice_known-1.given i)),
