@@ -7,16 +7,16 @@ use Rattle.cdef.specs.Cdef.{none, strengths, each_strength, strengths_out}
 use Rattle.cdef.proofs.write.each_strength.Statement.{statement}
 use Rattle.cdef.proofs.write.each_strength.Tie as tie
 
-abbrev invariant-loop : tie.invariant-loop
+abbrev invariant-loop : tie.invariant-loop-i
 invariant-loop out₀ planes count p c₀ i₀ out c i = Each ((each_strength planes count).enc (strengths_out p)) c₀ out₀ none (strengths planes) 8 count (strengths_out p) i c out
 
-abbrev decreases-loop : tie.decreases-loop
+abbrev decreases-loop : tie.decreases-loop-i
 decreases-loop out₀ planes count p c₀ i₀ out c i = count - i
 
-returns : tie.Need-returns invariant-loop decreases-loop
+returns : tie.Need-returns-in_default invariant-loop decreases-loop
 returns c = search each_halt
 
-returns-2 : tie.Need-returns-2 invariant-loop decreases-loop
+returns-2 : tie.Need-returns invariant-loop decreases-loop
 returns-2 c = search each-done
 
 pub each_strength_spec : {M : Type 1} → statement M

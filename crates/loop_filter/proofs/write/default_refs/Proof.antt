@@ -13,16 +13,16 @@ use Rattle.parts.proofs.Signs.{both_by}
 use Rattle.loop_filter.proofs.write.default_refs.Statement.{statement}
 use Rattle.loop_filter.proofs.write.default_refs.Tie as tie
 
-abbrev invariant-loop : tie.invariant-loop
+abbrev invariant-loop : tie.invariant-loop-i
 invariant-loop out₀ p c₀ i₀ out c i = Each (default_refs.enc p.loop_filter_ref_deltas) c₀ out₀ (pos 0) (λ i. inferred_signed loop_filter_ref_deltas (get_or default_deltas i (pos 0))) 8 8 p.loop_filter_ref_deltas i c out
 
-abbrev decreases-loop : tie.decreases-loop
+abbrev decreases-loop : tie.decreases-loop-i
 decreases-loop out₀ p c₀ i₀ out c i = 8 - i
 
-returns : tie.Need-returns invariant-loop decreases-loop
+returns : tie.Need-returns-in_default invariant-loop decreases-loop
 returns c = search (each_halt, both_by)
 
-returns-2 : tie.Need-returns-2 invariant-loop decreases-loop
+returns-2 : tie.Need-returns invariant-loop decreases-loop
 returns-2 c = search each-done
 
 pub default_refs_spec : {M : Type 1} → statement M

@@ -12,16 +12,16 @@ use Rattle.parts.proofs.Signs.{given}
 use Rattle.loop_filter.proofs.write.ref_deltas.Statement.{statement}
 use Rattle.loop_filter.proofs.write.ref_deltas.Tie as tie
 
-abbrev invariant-loop : tie.invariant-loop
+abbrev invariant-loop : tie.invariant-loop-i
 invariant-loop out₀ p c₀ i₀ out c i = Each ((ref_deltas no_old.0).enc p.loop_filter_ref_deltas) c₀ out₀ (pos 0) (λ i. delta (get_or no_old.0 i (pos 0)) loop_filter_ref_deltas i) 8 8 p.loop_filter_ref_deltas i c out
 
-abbrev decreases-loop : tie.decreases-loop
+abbrev decreases-loop : tie.decreases-loop-i
 decreases-loop out₀ p c₀ i₀ out c i = 8 - i
 
-returns : tie.Need-returns invariant-loop decreases-loop
+returns : tie.Need-returns-in_default invariant-loop decreases-loop
 returns c = search (each_halt, given)
 
-returns-2 : tie.Need-returns-2 invariant-loop decreases-loop
+returns-2 : tie.Need-returns invariant-loop decreases-loop
 returns-2 c = search each-done
 
 pub ref_deltas_spec : {M : Type 1} → statement M

@@ -13,16 +13,16 @@ use Rattle.bits.proofs.Loops.{Each, each_start, each_more, each_halt, each-done}
 use Rattle.segmentation.proofs.write.features.Statement.{statement}
 use Rattle.segmentation.proofs.write.features.Tie as tie
 
-abbrev invariant-loop : tie.invariant-loop
+abbrev invariant-loop : tie.invariant-loop-i
 invariant-loop out₀ p c₀ i₀ out c i = Each (features.enc (features_out p)) c₀ out₀ (false, pos 0) feature 64 64 (zip false (pos 0) p.feature_enabled p.feature_data) i c out
 
-abbrev decreases-loop : tie.decreases-loop
+abbrev decreases-loop : tie.decreases-loop-i
 decreases-loop out₀ p c₀ i₀ out c i = 64 - i
 
-returns : tie.Need-returns invariant-loop decreases-loop
+returns : tie.Need-returns-in_default invariant-loop decreases-loop
 returns c = search (each_halt, feature-at)
 
-returns-2 : tie.Need-returns-2 invariant-loop decreases-loop
+returns-2 : tie.Need-returns invariant-loop decreases-loop
 returns-2 c = search each-done
 
 pub features_spec : {M : Type 1} → statement M
