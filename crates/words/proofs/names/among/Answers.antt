@@ -1,14 +1,10 @@
-use mathlib.Core.Path.{◌≡◌}
-use Prim.Native.Nat.{◌≤◌, ◌-◌}
 use native.Mathlib.Omega.{arith}
-use lib.ListN.{length, drop}
 use borrow.Author.Rules.{rules}
-use Rattle.words.specs.Names.{among}
 use Rattle.words.proofs.Found.{among_here, among_next, among_none}
 use Rattle.words.proofs.names.among.Goals as goal
 
 pub overflow_cast-elements : goal.overflow_cast-elements
-overflow_cast-elements c = omega (arith, c.shared_slice_known-1.given c.loop-i.i)
+overflow_cast-elements c = omega (arith, c.type_inv.elements c.loop-i.i)
 
 pub returns-then-elements-i : goal.returns-then-elements-i
 returns-then-elements-i c =

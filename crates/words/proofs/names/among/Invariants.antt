@@ -1,10 +1,7 @@
 use mathlib.Core.Path.{◌≡◌}
 use Prim.Native.Nat.{◌≤◌, ◌-◌}
-use native.Mathlib.Omega.{arith}
 use lib.ListN.{length, drop}
-use borrow.Author.Rules.{rules}
 use Rattle.words.specs.Names.{among}
-use Rattle.words.proofs.Found.{among_here, among_next, among_none}
 use Rattle.words.proofs.names.among.Given as goal
 
 abbrev pub invariant-loop-i : goal.invariant-loop-i

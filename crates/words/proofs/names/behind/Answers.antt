@@ -1,12 +1,11 @@
-use mathlib.Core.Path.{◌≡◌}
-use mathlib.Core.Logic.{⊎_elim}
-use Prim.Native.Nat.{◌≤◌, ◌<◌, ◌-◌}
+use Prim.Native.Nat.{◌<◌}
 use native.Mathlib.Omega.{arith}
-use lib.ListN.{length, drop}
+use lib.ListN.{length}
 use borrow.Author.Rules.{rules}
 use Rattle.words.specs.Listed.{skipped}
 use Rattle.words.proofs.Listed.{passed, at-end, comma, letter}
 use Rattle.words.proofs.names.behind.Goals as goal
+use Rattle.words.proofs.names.behind.Goals.{then-s-i-eq44, else-s-i-eq44}
 
 pub returns-then-left-eq0 : goal.returns-then-left-eq0
 returns-then-left-eq0 c =
@@ -21,10 +20,10 @@ loop-i-preserved c =
     let h : l.i < length a.s.now = omega arith in (
       omega arith,
       search rules,
-      ⊎_elim
-          (λ w. rw w.1 (comma (skipped a.commas a.s.now) a.s.now l.i h l.left n w.0.taken l.invariant.2))
-          (λ w. rw w.1 (letter (skipped a.commas a.s.now) a.s.now l.i h l.left n w.0.left l.invariant.2))
-          c.if-s-i-eq44.branch,
+      elim c.if-s-i-eq44.branch [
+        | then-s-i-eq44 w ↦ rw w.left-is (comma (skipped a.commas a.s.now) a.s.now l.i h l.left n w.if-s-i-eq44.true l.invariant.2)
+        | else-s-i-eq44 w ↦ rw w.left-is (letter (skipped a.commas a.s.now) a.s.now l.i h l.left n w.if-s-i-eq44.false l.invariant.2)
+      ],
     )
 
 pub returns : goal.returns

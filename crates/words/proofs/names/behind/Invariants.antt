@@ -1,11 +1,7 @@
 use mathlib.Core.Path.{◌≡◌}
-use mathlib.Core.Logic.{⊎_elim}
-use Prim.Native.Nat.{◌≤◌, ◌<◌, ◌-◌}
-use native.Mathlib.Omega.{arith}
+use Prim.Native.Nat.{◌≤◌, ◌-◌}
 use lib.ListN.{length, drop}
-use borrow.Author.Rules.{rules}
 use Rattle.words.specs.Listed.{skipped}
-use Rattle.words.proofs.Listed.{passed, at-end, comma, letter}
 use Rattle.words.proofs.names.behind.Given as goal
 
 abbrev pub invariant-loop-i : goal.invariant-loop-i

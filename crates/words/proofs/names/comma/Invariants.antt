@@ -1,11 +1,8 @@
 use mathlib.Core.Path.{◌≡◌}
 use mathlib.Core.List.{◌++◌}
 use Prim.Native.Nat.{◌≤◌, ◌-◌}
-use native.Mathlib.Omega.{arith}
 use lib.ListN.{length, take, drop}
-use borrow.Author.Rules.{rules}
 use Rattle.words.specs.Listed.{word}
-use Rattle.words.proofs.Listed.{word_next, word-ends, word_comma}
 use Rattle.words.proofs.names.comma.Given as goal
 
 abbrev pub invariant-loop-i : goal.invariant-loop-i

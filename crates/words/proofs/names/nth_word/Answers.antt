@@ -4,12 +4,6 @@ use Prim.Native.Nat.{ℕ, ◌-◌}
 use native.Mathlib.Omega.{arith}
 use lib.ListN.{length, take, drop, length-drop}
 use lib.Seq.{length-take-le, take_all}
-use borrow.Author.Rules.{rules}
-use Rattle.words.proofs.names.nth_word.Reads as reads
-use Rattle.words.proofs.names.nth_word.Lts as lts
-use Rattle.words.proofs.names.behind.Reads as behind-reads
-use Rattle.words.proofs.names.comma.Reads as comma-reads
-use Rattle.words.proofs.put.text.Reads as text-reads
 use Rattle.words.proofs.names.nth_word.Goals as goal
 
 abbrev rest : List ℕ → ℕ → List ℕ

@@ -1,7 +1,6 @@
 use mathlib.Core.Path.{refl}
 use native.Mathlib.Omega.{arith}
 use Rattle.words.proofs.Puts.{put_one}
-use borrow.Author.Rules.{rules}
 use Rattle.words.proofs.put.byte.Goals as goal
 
 pub returns-then-at-out : goal.returns-then-at-out

@@ -1,9 +1,7 @@
-use mathlib.Core.Path.{◌≡◌, refl}
-use Prim.Native.Nat.{◌≤◌, ◌+◌, ◌-◌}
+use mathlib.Core.Path.{refl}
 use native.Mathlib.Omega.{arith}
 use borrow.Author.Rules.{rules}
-use lib.ListN.{length}
-use lib.Seq.{paste, paste-zero}
+use lib.Seq.{paste-zero}
 use Rattle.words.proofs.Puts.{put_next, put_all}
 use Rattle.words.proofs.put.text.Goals as goal
 
@@ -11,12 +9,11 @@ pub loop-i-init : goal.loop-i-init
 loop-i-init c = (omega arith, refl, refl, λ _. (omega arith, paste-zero c.args.out.now c.args.at c.args.s.now))
 
 pub loop-i-preserved : goal.loop-i-preserved
-loop-i-preserved c =
-    (
+loop-i-preserved c = (
   omega arith,
   refl,
   search rules,
-  put_next c.args.out.now c.args.at c.args.s.now c.loop-i.i c.loop-i.end c.byte-end.result c.loop-i.out c.byte-end.new.0 (omega arith)
+  put_next c.args.out.now c.args.at c.args.s.now c.loop-i.i c.loop-i.end c.byte-end.result c.loop-i.out c.byte-end.new.out (omega arith)
       c.loop-i.invariant.3 c.loop-i.invariant.2 c.byte-end.ensures,
 )
 

@@ -1,10 +1,7 @@
-use mathlib.Core.Path.{◌≡◌, refl}
+use mathlib.Core.Path.{◌≡◌}
 use Prim.Native.Nat.{◌≤◌, ◌+◌, ◌-◌}
-use native.Mathlib.Omega.{arith}
-use borrow.Author.Rules.{rules}
 use lib.ListN.{length}
-use lib.Seq.{paste, paste-zero}
-use Rattle.words.proofs.Puts.{put_next, put_all}
+use lib.Seq.{paste}
 use Rattle.words.proofs.put.text.Given as goal
 
 abbrev pub invariant-loop-i : goal.invariant-loop-i
