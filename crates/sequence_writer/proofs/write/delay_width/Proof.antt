@@ -14,4 +14,4 @@ coded_fits has d e h = omega (arith, rw e at h)
 
 pub delay_width_spec : {M : Type 1} → statement M
 unfolding decoder_model_info_if decoder_model_info choose absent via ◌▷◌ f
-delay_width_spec = tie.close (tie.spec (λ c. record { fits = search coded_fits }) (λ c. rw c.before.if1.true) (λ c. rw c.if1.false))
+delay_width_spec = tie.close (tie.spec (λ c. record { fits = search coded_fits }) (λ c. rw c.before.if-has_model.true) (λ c. rw c.if-has_model.false))
