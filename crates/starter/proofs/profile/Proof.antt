@@ -3,4 +3,4 @@ use Rattle.starter.proofs.profile.Statement.{statement}
 use Rattle.starter.proofs.profile.Tie as tie
 
 pub profile_spec : {M : Type 1} → statement M
-profile_spec = tie.close (tie.spec (λ c. simp (eq-eqb _ _ c.if1.true)) (λ c. simp (ne_eqb _ _ c.if1.false)))
+profile_spec = tie.close (tie.spec (λ c. simp (eq-eqb _ _ c.if-bit_depth-eq12.true)) (λ c. simp (ne_eqb _ _ c.if-bit_depth-eq12.false)))

@@ -10,11 +10,11 @@ returns : tie.Need-returns
 unfolding numbers_of video at of each nowhere ◌▸◌ ◌▹◌
 returns c =
     rw (
-      c.bits-minus-12.ensures,
+      c.bits_minus_1-2.ensures,
       c.before.bits_minus_1.ensures,
       c.before.before.profile.ensures,
-      c.before.before.before.minus-12.ensures,
-      c.before.before.before.before.minus_1.ensures,
+      c.before.before.before.minus_1-h.ensures,
+      c.before.before.before.before.minus_1-w.ensures,
     )
 
 pub video_spec : {M : Type 1} → statement M

@@ -6,10 +6,10 @@ use Rattle.numbers.proofs.Filling.{Filled, filled_none, filled_on, filled-end}
 use Rattle.cdef_numbers.proofs.record.strengths.Statement.{statement}
 use Rattle.cdef_numbers.proofs.record.strengths.Tie as tie
 
-abbrev invariant-loop : tie.invariant-loop
+abbrev invariant-loop : tie.invariant-loop-i
 invariant-loop n at a₀ i₀ a i = Filled (λ j. natural_at n (at + j)) 8 a i
 
-abbrev decreases-loop : tie.decreases-loop
+abbrev decreases-loop : tie.decreases-loop-i
 decreases-loop n at a₀ i₀ a i = 8 - i
 
 pub strengths_spec : {M : Type 1} → statement M

@@ -8,10 +8,10 @@ use Rattle.numbers.proofs.Narrowing.{stored}
 use Rattle.loop_filter_numbers.proofs.record.ref_deltas.Statement.{statement}
 use Rattle.loop_filter_numbers.proofs.record.ref_deltas.Tie as tie
 
-abbrev invariant-loop : tie.invariant-loop
+abbrev invariant-loop : tie.invariant-loop-i
 invariant-loop n a₀ i₀ a i = Filled (λ j. signed_at n (10 + j)) 8 a i
 
-abbrev decreases-loop : tie.decreases-loop
+abbrev decreases-loop : tie.decreases-loop-i
 decreases-loop n a₀ i₀ a i = 8 - i
 
 pub ref_deltas_spec : {M : Type 1} → statement M

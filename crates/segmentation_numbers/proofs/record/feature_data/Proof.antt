@@ -9,10 +9,10 @@ use Rattle.numbers.proofs.Narrowing.{stored}
 use Rattle.segmentation_numbers.proofs.record.feature_data.Statement.{statement}
 use Rattle.segmentation_numbers.proofs.record.feature_data.Tie as tie
 
-abbrev invariant-loop : tie.invariant-loop
+abbrev invariant-loop : tie.invariant-loop-i
 invariant-loop n a₀ i₀ a i = Filled (λ j. int16 (signed_at n (69 + j))) 64 a i
 
-abbrev decreases-loop : tie.decreases-loop
+abbrev decreases-loop : tie.decreases-loop-i
 decreases-loop n a₀ i₀ a i = 64 - i
 
 pub feature_data_spec : {M : Type 1} → statement M

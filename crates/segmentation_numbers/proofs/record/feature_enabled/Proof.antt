@@ -7,10 +7,10 @@ use Rattle.numbers.proofs.Filling.{Filled, filled_none, filled_on, filled-end}
 use Rattle.segmentation_numbers.proofs.record.feature_enabled.Statement.{statement}
 use Rattle.segmentation_numbers.proofs.record.feature_enabled.Tie as tie
 
-abbrev invariant-loop : tie.invariant-loop
+abbrev invariant-loop : tie.invariant-loop-i
 invariant-loop n a₀ i₀ a i = Filled (λ j. set_at n (5 + j)) 64 a i
 
-abbrev decreases-loop : tie.decreases-loop
+abbrev decreases-loop : tie.decreases-loop-i
 decreases-loop n a₀ i₀ a i = 64 - i
 
 pub feature_enabled_spec : {M : Type 1} → statement M

@@ -6,10 +6,10 @@ use Rattle.numbers.proofs.Filling.{Filled, filled_none, part_on, part_end}
 use Rattle.sequence_numbers.proofs.points.operating_points.Statement.{statement}
 use Rattle.sequence_numbers.proofs.points.operating_points.Tie as tie
 
-abbrev invariant-loop : tie.invariant-loop
+abbrev invariant-loop : tie.invariant-loop-i
 invariant-loop n points₀ i₀ i-end points i = Filled (point_of n) 32 points i
 
-abbrev decreases-loop : tie.decreases-loop
+abbrev decreases-loop : tie.decreases-loop-i
 decreases-loop n points₀ i₀ i-end points i = i-end - i
 
 pub operating_points_spec : {M : Type 1} → statement M

@@ -11,7 +11,7 @@ returns c =
     let model = points.before in
     let timing = model.before in
     let header = timing.before in
-    record_given header.before.before.before.before.before.before.args.n.now points.operating_points.result header.obu_header.ensures timing.timing_info.ensures model.decoder_model_info.ensures points.operating_points.ensures color.color_config.ensures
+    record_given header.before.before.before.before.before.before.args.n.now points.operating_points-operating_points.result header.obu_header-obu_header.ensures timing.timing_info-timing_info.ensures model.decoder_model_info-decoder_model_info.ensures points.operating_points-operating_points.ensures color.color_config-color_config.ensures
 
 pub sequence_header_spec : {M : Type 1} → statement M
 sequence_header_spec =
