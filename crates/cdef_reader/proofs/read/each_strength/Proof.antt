@@ -7,10 +7,10 @@ use Rattle.cdef_reader.proofs.Strengths.{Places, each_laid}
 use Rattle.cdef_reader.proofs.read.each_strength.Statement.{statement}
 use Rattle.cdef_reader.proofs.read.each_strength.Tie as tie
 
-abbrev invariant-loop : tie.invariant-loop
+abbrev invariant-loop : tie.invariant-loop-i
 invariant-loop s planes count n₀ p₀ i₀ n p i = Places planes count s p₀ n₀ p n i
 
-abbrev decreases-loop : tie.decreases-loop
+abbrev decreases-loop : tie.decreases-loop-i
 decreases-loop s planes count n₀ p₀ i₀ n p i = 8 - i
 
 pub each_strength_spec : {M : Type 1} → statement M

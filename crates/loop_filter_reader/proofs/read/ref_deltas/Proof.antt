@@ -7,10 +7,10 @@ use Rattle.loop_filter_reader.proofs.Deltas.{Refs, refs_on, refs_halt, refs_end}
 use Rattle.loop_filter_reader.proofs.read.ref_deltas.Statement.{statement}
 use Rattle.loop_filter_reader.proofs.read.ref_deltas.Tie as tie
 
-abbrev invariant-loop : tie.invariant-loop
+abbrev invariant-loop : tie.invariant-loop-i
 invariant-loop s old n₀ p₀ i₀ n p i = Refs old s p₀ n₀ p n i
 
-abbrev decreases-loop : tie.decreases-loop
+abbrev decreases-loop : tie.decreases-loop-i
 decreases-loop s old n₀ p₀ i₀ n p i = 8 - i
 
 pub ref_deltas_spec : {M : Type 1} → statement M

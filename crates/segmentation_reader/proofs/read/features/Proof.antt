@@ -6,10 +6,10 @@ use Rattle.segmentation_reader.proofs.Features.{Left, features_halt, features-en
 use Rattle.segmentation_reader.proofs.read.features.Statement.{statement}
 use Rattle.segmentation_reader.proofs.read.features.Tie as tie
 
-abbrev invariant-loop : tie.invariant-loop
+abbrev invariant-loop : tie.invariant-loop-i
 invariant-loop s n₀ p₀ i₀ n p i = Left s p₀ n₀ p n i
 
-abbrev decreases-loop : tie.decreases-loop
+abbrev decreases-loop : tie.decreases-loop-i
 decreases-loop s n₀ p₀ i₀ n p i = 64 - i
 
 pub features_spec : {M : Type 1} → statement M

@@ -5,10 +5,10 @@ use Rattle.segmentation_reader.proofs.Features.{Clearing, clearing_all, clearing
 use Rattle.segmentation_reader.proofs.read.no_features.Statement.{statement}
 use Rattle.segmentation_reader.proofs.read.no_features.Tie as tie
 
-abbrev invariant-loop : tie.invariant-loop
+abbrev invariant-loop : tie.invariant-loop-i
 invariant-loop n₀ i₀ n i = Clearing n₀ n i
 
-abbrev decreases-loop : tie.decreases-loop
+abbrev decreases-loop : tie.decreases-loop-i
 decreases-loop n₀ i₀ n i = 64 - i
 
 pub no_features_spec : {M : Type 1} → statement M
