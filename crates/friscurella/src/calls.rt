@@ -64,16 +64,14 @@ fn outcome_numbers(o: Outcome) -> Numbered
 }
 
 // The version of the library, as the header for C has it.
-#[unsafe(no_mangle)]
-pub extern "C" fn friscurella_version() -> u32
+pub fn friscurella_version() -> u32
     ensures { result ≡ version }
 {
     700
 }
 
 // One sentence on an answer, cut where there is no room for it and a 0 byte. Returns the length of the whole sentence.
-#[unsafe(no_mangle)]
-pub extern "C" fn friscurella_explain(answer: &[u32; 4], text: &mut [u8]) -> u32
+pub fn friscurella_explain(answer: &[u32; 4], text: &mut [u8]) -> u32
     ensures value { result ≡ length (explained answer.now) }
     ensures text_after { text.new ≡ cut (explained answer.now) text.old }
 {
@@ -81,8 +79,7 @@ pub extern "C" fn friscurella_explain(answer: &[u32; 4], text: &mut [u8]) -> u32
 }
 
 // A record to start from.
-#[unsafe(no_mangle)]
-pub extern "C" fn friscurella_video(
+pub fn friscurella_video(
     width: u32,
     height: u32,
     bit_depth: u32,
@@ -93,8 +90,7 @@ pub extern "C" fn friscurella_video(
     video(width, height, bit_depth, record);
 }
 
-#[unsafe(no_mangle)]
-pub extern "C" fn friscurella_write_sequence_header(
+pub fn friscurella_write_sequence_header(
     record: &[u32; place::NUMBERS],
     out: &mut [u8],
     answer: &mut [u32; 4],
@@ -105,8 +101,7 @@ pub extern "C" fn friscurella_write_sequence_header(
     tell(answer_numbers(a), answer)
 }
 
-#[unsafe(no_mangle)]
-pub extern "C" fn friscurella_write_temporal_delimiter(
+pub fn friscurella_write_temporal_delimiter(
     record: &[u32; 5],
     out: &mut [u8],
     answer: &mut [u32; 4],
@@ -117,8 +112,7 @@ pub extern "C" fn friscurella_write_temporal_delimiter(
     tell(answer_numbers(a), answer)
 }
 
-#[unsafe(no_mangle)]
-pub extern "C" fn friscurella_write_quantization_params(
+pub fn friscurella_write_quantization_params(
     record: &[i32; 13],
     place: u32,
     out: &mut [u8],
@@ -130,8 +124,7 @@ pub extern "C" fn friscurella_write_quantization_params(
     tell(answer_numbers(a), answer)
 }
 
-#[unsafe(no_mangle)]
-pub extern "C" fn friscurella_write_segmentation_params(
+pub fn friscurella_write_segmentation_params(
     record: &[i32; 133],
     place: u32,
     out: &mut [u8],
@@ -143,8 +136,7 @@ pub extern "C" fn friscurella_write_segmentation_params(
     tell(answer_numbers(a), answer)
 }
 
-#[unsafe(no_mangle)]
-pub extern "C" fn friscurella_write_loop_filter_params(
+pub fn friscurella_write_loop_filter_params(
     record: &[i32; 20],
     place: u32,
     out: &mut [u8],
@@ -156,8 +148,7 @@ pub extern "C" fn friscurella_write_loop_filter_params(
     tell(answer_numbers(a), answer)
 }
 
-#[unsafe(no_mangle)]
-pub extern "C" fn friscurella_write_cdef_params(
+pub fn friscurella_write_cdef_params(
     record: &[i32; 38],
     place: u32,
     out: &mut [u8],
@@ -169,8 +160,7 @@ pub extern "C" fn friscurella_write_cdef_params(
     tell(answer_numbers(a), answer)
 }
 
-#[unsafe(no_mangle)]
-pub extern "C" fn friscurella_write_lr_params(
+pub fn friscurella_write_lr_params(
     record: &[i32; 14],
     place: u32,
     out: &mut [u8],
@@ -183,28 +173,19 @@ pub extern "C" fn friscurella_write_lr_params(
 }
 
 // What a part goes by, from the sequence header's record and the frame's own values.
-#[unsafe(no_mangle)]
-pub extern "C" fn friscurella_make_quantization_context(
-    header: &[u32; place::NUMBERS],
-    context: &mut [i32; 2],
-)
+pub fn friscurella_make_quantization_context(header: &[u32; place::NUMBERS], context: &mut [i32; 2])
     ensures { context.new ≡ quantization_numbers (quantization_context (record_of header.now)) }
 {
     *context = quantization_context(header);
 }
 
-#[unsafe(no_mangle)]
-pub extern "C" fn friscurella_make_segmentation_context(
-    primary_ref_frame: i32,
-    context: &mut [i32; 1],
-)
+pub fn friscurella_make_segmentation_context(primary_ref_frame: i32, context: &mut [i32; 1])
     ensures { context.new ≡ primary_ref_frame ∷ [] }
 {
     *context = [primary_ref_frame];
 }
 
-#[unsafe(no_mangle)]
-pub extern "C" fn friscurella_make_loop_filter_context(
+pub fn friscurella_make_loop_filter_context(
     header: &[u32; place::NUMBERS],
     coded_lossless: bool,
     allow_intrabc: bool,
@@ -215,8 +196,7 @@ pub extern "C" fn friscurella_make_loop_filter_context(
     *context = loop_filter_context(header, coded_lossless, allow_intrabc);
 }
 
-#[unsafe(no_mangle)]
-pub extern "C" fn friscurella_make_cdef_context(
+pub fn friscurella_make_cdef_context(
     header: &[u32; place::NUMBERS],
     coded_lossless: bool,
     allow_intrabc: bool,
@@ -227,8 +207,7 @@ pub extern "C" fn friscurella_make_cdef_context(
     *context = cdef_context(header, coded_lossless, allow_intrabc);
 }
 
-#[unsafe(no_mangle)]
-pub extern "C" fn friscurella_make_lr_context(
+pub fn friscurella_make_lr_context(
     header: &[u32; place::NUMBERS],
     all_lossless: bool,
     allow_intrabc: bool,
@@ -240,8 +219,7 @@ pub extern "C" fn friscurella_make_lr_context(
 }
 
 // Where the input is refused, the record is as it was.
-#[unsafe(no_mangle)]
-pub extern "C" fn friscurella_read_sequence_header(
+pub fn friscurella_read_sequence_header(
     input: &[u8],
     record: &mut [u32; place::NUMBERS],
     answer: &mut [u32; 4],
@@ -253,8 +231,7 @@ pub extern "C" fn friscurella_read_sequence_header(
 }
 
 // Each part is read by the context that stands in its record; where it is refused, the record is as it was.
-#[unsafe(no_mangle)]
-pub extern "C" fn friscurella_read_quantization_params(
+pub fn friscurella_read_quantization_params(
     input: &[u8],
     place: u32,
     record: &mut [i32; 13],
@@ -266,8 +243,7 @@ pub extern "C" fn friscurella_read_quantization_params(
     tell(answer_numbers(a), answer)
 }
 
-#[unsafe(no_mangle)]
-pub extern "C" fn friscurella_read_lr_params(
+pub fn friscurella_read_lr_params(
     input: &[u8],
     place: u32,
     record: &mut [i32; 14],
@@ -279,8 +255,7 @@ pub extern "C" fn friscurella_read_lr_params(
     tell(answer_numbers(a), answer)
 }
 
-#[unsafe(no_mangle)]
-pub extern "C" fn friscurella_read_loop_filter_params(
+pub fn friscurella_read_loop_filter_params(
     input: &[u8],
     place: u32,
     previous: &[i32; 10],
@@ -293,8 +268,7 @@ pub extern "C" fn friscurella_read_loop_filter_params(
     tell(answer_numbers(a), answer)
 }
 
-#[unsafe(no_mangle)]
-pub extern "C" fn friscurella_read_segmentation_params(
+pub fn friscurella_read_segmentation_params(
     input: &[u8],
     place: u32,
     record: &mut [i32; 133],
@@ -306,8 +280,7 @@ pub extern "C" fn friscurella_read_segmentation_params(
     tell(answer_numbers(a), answer)
 }
 
-#[unsafe(no_mangle)]
-pub extern "C" fn friscurella_read_cdef_params(
+pub fn friscurella_read_cdef_params(
     input: &[u8],
     place: u32,
     record: &mut [i32; 38],
@@ -320,16 +293,14 @@ pub extern "C" fn friscurella_read_cdef_params(
 }
 
 // The payload's first byte and its length.
-#[unsafe(no_mangle)]
-pub extern "C" fn friscurella_payload(input: &[u8], answer: &mut [u32; 2])
+pub fn friscurella_payload(input: &[u8], answer: &mut [u32; 2])
     ensures { answer.new ≡ part_numbers (payload_part input.now) }
 {
     let p = payload_part(input);
     *answer = [p.place as u32, p.size as u32];
 }
 
-#[unsafe(no_mangle)]
-pub extern "C" fn friscurella_is_temporal_delimiter(input: &[u8]) -> bool
+pub fn friscurella_is_temporal_delimiter(input: &[u8]) -> bool
     ensures { Tells result (IsDelimiter input.now) }
 {
     is_temporal_delimiter(input)

@@ -85,7 +85,7 @@ module _ (j bits : ℕ) (b : bits ≡ feature_bits j) (l : bits ≤ 8) {xs : Lis
         let f : SFits w32 limit = record { sfits = g } in
         let z : pos 0 ≤ℤ limit = rw h (max-plain j) in
         let v : r ≡ clip (neg_ℤ (feature_max j)) (feature_max j) x = rw (neg_is w32 limit z f, to_z-of_z f, h, to_z-of_z (su_fits (bits + 1) (omega arith) _ (was_it coded e).finds)) at d in
-        trim_read _ _ signed e (to_z-of_z (record { sfits = k }) ∙ v)
+        trim_read _ _ signed e (to_z-of_z {w = w32} (record { sfits = k }) ∙ v)
 
   module _ (i : Fills (made natural) (f (min bits 31) 0 0).dec xs p u w x) where
     plain : Fills (made natural) (f bits 0 0).dec xs p u w x
@@ -104,4 +104,4 @@ module _ (j bits : ℕ) (b : bits ≡ feature_bits j) (l : bits ≤ 8) {xs : Lis
     unsigned-read limit r e h g k d =
         let f : SFits w32 limit = record { sfits = g } in
         let v : r ≡ clip (pos 0) (feature_max j) x = rw (to_z-of_z f, h, to_z-of_z (natural_fits bits l plain e)) at d in
-        trim_read _ _ unsigned e (to_z-of_z (record { sfits = k }) ∙ v)
+        trim_read _ _ unsigned e (to_z-of_z {w = w32} (record { sfits = k }) ∙ v)
