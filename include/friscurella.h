@@ -15,7 +15,7 @@ extern "C" {
 #endif
 
 /* The version of this header: 10000 * major + 100 * minor + patch. */
-#define FRISCURELLA_VERSION 700
+#define FRISCURELLA_VERSION 600
 
 /* The version of the library. A program that finds another than FRISCURELLA_VERSION is linked with
    an archive that this header does not describe. */

@@ -297,7 +297,7 @@ case("rlr 0 0 0 3 0 1 1", "0 0 0 0 0 0 0 0 0")
 case("  rlr  00 -0 0 3 -7 999999999999999999 1 ;in= place=00  ", "0 0 0 0 0 0 0 0 0")
 
 # What the crate, the model of document 01 and real streams say.
-for name in "oracle", "read", "rparts", "room", "bad":
+for name in "oracle", "read", "rparts", "bad":
     stored(TESTS / "vectors" / name)
 for name in "seq.txt", "parts.txt":
     real(TESTS / "streams" / name)

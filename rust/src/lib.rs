@@ -53,7 +53,7 @@ pub use record::*;
 pub use refusal::{Element, Refusal};
 
 /// The version of the library that this crate is for: 10000 * major + 100 * minor + patch.
-pub const VERSION: u32 = 700;
+pub const VERSION: u32 = 600;
 
 /// The version of the library that is linked. Another than [`VERSION`] may answer what this crate
 /// does not know.

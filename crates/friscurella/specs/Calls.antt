@@ -17,7 +17,7 @@ use Rattle.sequence_reader.specs.declared.read.Outcome.TheVariants.{Done, Refuse
 
 -- 10000 * major + 100 * minor + patch
 abbrev pub version : ℕ
-version = 700
+version = 600
 
 -- an answer: its number and its three values
 abbrev pub answer_of : Numbered → List ℕ
