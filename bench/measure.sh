@@ -7,7 +7,7 @@
 #   bench/measure.sh profile SIDE KIND CASE     instructions per function
 # On Arm (Debian 12 with clang, lld and gcc) the program is compiled for x86-64 and run by qemu-user 7.2, where icount.c counts every instruction.
 # On x86-64 (with rustc, cc and valgrind) callgrind counts.
-# LIBRARY is the archive that is measured, by default what `rt staticlib friscurella` wrote.
+# LIBRARY is the archive that is measured, by default what `./staticlib` wrote.
 set -euo pipefail
 here=$(dirname "$(readlink -f "$0")")
 root=$(dirname "$here")

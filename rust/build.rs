@@ -1,5 +1,5 @@
 //! Tells the linker where `libfriscurella.a` is: in `FRISCURELLA_LIB_DIR`, or where
-//! `rt staticlib friscurella` writes it in this repository.
+//! `./staticlib` writes it in this repository.
 use std::env;
 use std::path::{Path, PathBuf};
 
@@ -14,7 +14,7 @@ fn main() {
     println!("cargo:rustc-link-search=native={}", dir.display());
     if !archive.exists() {
         println!(
-            "cargo:warning={} is missing: `rt staticlib friscurella` writes it, and \
+            "cargo:warning={} is missing: `./staticlib` writes it, and \
              FRISCURELLA_LIB_DIR says where it is",
             archive.display()
         );

@@ -26,7 +26,7 @@
 //!
 //! # Linking
 //!
-//! The proved library is `libfriscurella.a`, for x86-64 Linux; `rt staticlib friscurella` writes
+//! The proved library is `libfriscurella.a`, for x86-64 Linux; `./staticlib` writes
 //! it. The build looks for it in the folder that the environment variable `FRISCURELLA_LIB_DIR`
 //! names, or else in `target/staticlib` of the repository that this crate stands in. [`version`]
 //! tells the library's version, which is to be [`VERSION`]. No call panics, whatever the library
