@@ -50,11 +50,10 @@ fn decimal(rt: &impl Print, n: u64) -> io::Result<()> {
 fn signed(rt: &impl Print, n: i32) -> io::Result<()> {
     if n < 0 {
         text(rt, b"-")?;
-        decimal(rt, (-1 - n) as u64 + 1)?;
+        decimal(rt, (-1 - n) as u64 + 1)
     } else {
-        decimal(rt, n as u64)?;
+        decimal(rt, n as u64)
     }
-    Ok(())
 }
 
 fn start() -> Cursor {
@@ -66,12 +65,7 @@ fn one_bit(rt: &impl Print, s: &[u8], at: usize) -> io::Result<()> {
     let GotFlag::Value(one, _) = g else {
         return text(rt, b"?");
     };
-    if one {
-        text(rt, b"1")?;
-    } else {
-        text(rt, b"0")?;
-    }
-    Ok(())
+    if one { text(rt, b"1") } else { text(rt, b"0") }
 }
 
 // The bits of s up to a place.
