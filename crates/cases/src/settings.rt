@@ -2,7 +2,7 @@
 use lines::parse::*;
 
 // What was given up to a place of the line, and what may still be given.
-#[derive(Drop)]
+#[derive(Clone, Copy)]
 pub struct Given {
     at: usize,
     pub size: usize,
@@ -12,7 +12,7 @@ pub struct Given {
     takes_place: bool,
 }
 
-#[derive(Drop)]
+#[derive(Clone, Copy)]
 pub enum Parsed {
     Next(Given),
     Bad,

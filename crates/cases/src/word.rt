@@ -1,7 +1,7 @@
 // The word that a case line begins with.
 use lines::parse::same;
 
-#[derive(Drop)]
+#[derive(Clone, Copy)]
 pub enum Word {
     Seq,
     Td,

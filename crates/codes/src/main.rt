@@ -3,7 +3,7 @@
 
 use bits::answer::*;
 use bits::element::*;
-use libc::STDOUT_FILENO;
+use std::io;
 
 const F_WIDTHS: [u32; 10] = [0, 0, 1, 5, 5, 5, 8, 12, 31, 32];
 
@@ -39,20 +39,20 @@ const CUT_SIZE: [u8; 1] = [128];
 
 const ZEROS: [u8; 8] = [0, 0, 0, 0, 255, 255, 255, 255];
 
-fn text(s: &[u8]) {
-    io::write_all(STDOUT_FILENO, s);
+fn text(rt: &impl Print, s: &[u8]) -> io::Result<()> {
+    rt.write_all(s)
 }
 
-fn decimal(n: u64) {
-    io::print_decimal(STDOUT_FILENO, n);
+fn decimal(rt: &impl Print, n: u64) -> io::Result<()> {
+    rt.print(n)
 }
 
-fn signed(n: i32) {
+fn signed(rt: &impl Print, n: i32) -> io::Result<()> {
     if n < 0 {
-        text(b"-");
-        decimal((-1 - n) as u64 + 1);
+        text(rt, b"-")?;
+        decimal(rt, (-1 - n) as u64 + 1)
     } else {
-        decimal(n as u64);
+        decimal(rt, n as u64)
     }
 }
 
@@ -60,198 +60,205 @@ fn start() -> Cursor {
     Cursor { at: 0 }
 }
 
-fn one_bit(s: &[u8], at: usize) {
+fn one_bit(rt: &impl Print, s: &[u8], at: usize) -> io::Result<()> {
     let g = reader::flag(s, Cursor { at });
     let GotFlag::Value(one, _) = g else {
-        return text(b"?");
+        return text(rt, b"?");
     };
-    if one {
-        text(b"1");
-    } else {
-        text(b"0");
-    }
+    if one { text(rt, b"1") } else { text(rt, b"0") }
 }
 
 // The bits of s up to a place.
-fn binary(s: &[u8], end: usize) {
+fn binary(rt: &impl Print, s: &[u8], end: usize) -> io::Result<()> {
     for i in 0..end {
-        one_bit(s, i);
+        one_bit(rt, s, i)?;
     }
-    text(b" = ");
+    text(rt, b" = ")
 }
 
-fn refusal(r: Refusal) {
+fn refusal(rt: &impl Print, r: Refusal) -> io::Result<()> {
     let n = bits::answer::numbers(r);
-    text(b"refused ");
-    decimal(n.number as u64);
-    text(b", ");
-    decimal(n.first as u64);
-    text(b", ");
-    decimal(n.second as u64);
+    text(rt, b"refused ")?;
+    decimal(rt, n.number as u64)?;
+    text(rt, b", ")?;
+    decimal(rt, n.first as u64)?;
+    text(rt, b", ")?;
+    decimal(rt, n.second as u64)?;
     if n.number == 2 {
-        text(b", ");
-        decimal(n.third as u64);
+        text(rt, b", ")?;
+        decimal(rt, n.third as u64)?;
     }
+    Ok(())
 }
 
-fn number(g: GotNumber) {
+fn number(rt: &impl Print, g: GotNumber) -> io::Result<()> {
     let GotNumber::Value(v, _) = g else {
-        return refusal(bits::answer::why_number(g));
+        return refusal(rt, bits::answer::why_number(g));
     };
-    decimal(v as u64);
+    decimal(rt, v as u64)
 }
 
-fn signed_number(g: GotSigned) {
+fn signed_number(rt: &impl Print, g: GotSigned) -> io::Result<()> {
     let GotSigned::Value(v, _) = g else {
-        return refusal(bits::answer::why_signed(g));
+        return refusal(rt, bits::answer::why_signed(g));
     };
-    signed(v);
+    signed(rt, v)
 }
 
-fn size(g: GotSize) {
+fn size(rt: &impl Print, g: GotSize) -> io::Result<()> {
     let GotSize::Value(v, _) = g else {
-        return refusal(bits::answer::why_size(g));
+        return refusal(rt, bits::answer::why_size(g));
     };
-    decimal(v);
+    decimal(rt, v)
 }
 
-fn f(n: u32, value: u32) {
-    text(b"f(");
-    decimal(n as u64);
-    text(b") ");
-    decimal(value as u64);
-    text(b": ");
+fn f(rt: &impl Print, n: u32, value: u32) -> io::Result<()> {
+    text(rt, b"f(")?;
+    decimal(rt, n as u64)?;
+    text(rt, b") ")?;
+    decimal(rt, value as u64)?;
+    text(rt, b": ")?;
     let mut out = [0u8; 8];
     let s = writer::f(&mut out, start(), n, value, BASE_Q_IDX, 0);
     let Step::Next(c) = s else {
-        return refusal(bits::answer::why_step(s));
+        return refusal(rt, bits::answer::why_step(s));
     };
-    binary(&out, c.at);
-    number(reader::f(&out, start(), n));
+    binary(rt, &out, c.at)?;
+    number(rt, reader::f(&out, start(), n))
 }
 
-fn su(n: u32, value: i32) {
-    text(b"su(");
-    decimal(n as u64);
-    text(b") ");
-    signed(value);
-    text(b": ");
+fn su(rt: &impl Print, n: u32, value: i32) -> io::Result<()> {
+    text(rt, b"su(")?;
+    decimal(rt, n as u64)?;
+    text(rt, b") ")?;
+    signed(rt, value)?;
+    text(rt, b": ")?;
     let mut out = [0u8; 8];
     let s = writer::su(&mut out, start(), n, value, DELTA_Q_Y_DC, 0);
     let Step::Next(c) = s else {
-        return refusal(bits::answer::why_step(s));
+        return refusal(rt, bits::answer::why_step(s));
     };
-    binary(&out, c.at);
-    signed_number(reader::su(&out, start(), n));
+    binary(rt, &out, c.at)?;
+    signed_number(rt, reader::su(&out, start(), n))
 }
 
-fn uvlc(value: u32) {
-    text(b"uvlc ");
-    decimal(value as u64);
-    text(b": ");
+fn uvlc(rt: &impl Print, value: u32) -> io::Result<()> {
+    text(rt, b"uvlc ")?;
+    decimal(rt, value as u64)?;
+    text(rt, b": ")?;
     let mut out = [0u8; 8];
     let s = writer::uvlc(&mut out, start(), value, NUM_TICKS_PER_PICTURE_MINUS_1, 0);
     let Step::Next(c) = s else {
-        return refusal(bits::answer::why_step(s));
+        return refusal(rt, bits::answer::why_step(s));
     };
-    binary(&out, c.at);
-    number(reader::uvlc(&out, start(), NUM_TICKS_PER_PICTURE_MINUS_1, 0));
+    binary(rt, &out, c.at)?;
+    number(
+        rt,
+        reader::uvlc(&out, start(), NUM_TICKS_PER_PICTURE_MINUS_1, 0),
+    )
 }
 
-fn leb128(value: u32) {
-    text(b"leb128 ");
-    decimal(value as u64);
-    text(b": ");
+fn leb128(rt: &impl Print, value: u32) -> io::Result<()> {
+    text(rt, b"leb128 ")?;
+    decimal(rt, value as u64)?;
+    text(rt, b": ")?;
     let mut out = [0u8; 8];
     let s = writer::leb128(&mut out, start(), value);
     let Step::Next(c) = s else {
-        return refusal(bits::answer::why_step(s));
+        return refusal(rt, bits::answer::why_step(s));
     };
-    binary(&out, c.at);
-    size(reader::leb128(&out, start()));
+    binary(rt, &out, c.at)?;
+    size(rt, reader::leb128(&out, start()))
 }
 
 // A delta and a segment value of sixteen bits.
-fn narrow(delta: i16, segment: i16) {
+fn narrow(rt: &impl Print, delta: i16, segment: i16) -> io::Result<()> {
     let mut out = [0u8; 8];
     let s = writer::su16(&mut out, start(), 7, delta, DELTA_Q_Y_DC, 0);
     let Step::Next(c) = s else {
-        return refusal(bits::answer::why_step(s));
+        return refusal(rt, bits::answer::why_step(s));
     };
     let s = writer::su16(&mut out, c, 9, segment, FEATURE_DATA, 63);
     let Step::Next(d) = s else {
-        return refusal(bits::answer::why_step(s));
+        return refusal(rt, bits::answer::why_step(s));
     };
-    binary(&out, d.at);
-    signed_number(reader::su(&out, start(), 7));
-    text(b", ");
-    signed_number(reader::su(&out, c, 9));
+    binary(rt, &out, d.at)?;
+    signed_number(rt, reader::su(&out, start(), 7))?;
+    text(rt, b", ")?;
+    signed_number(rt, reader::su(&out, c, 9))
 }
 
-fn line() {
-    text(b"\n");
+fn line(rt: &impl Print) -> io::Result<()> {
+    text(rt, b"\n")
 }
 
-fn all_f() {
+fn all_f(rt: &impl Print) -> io::Result<()> {
     for i in 0..10 {
-        f(F_WIDTHS[i], F_VALUES[i]);
-        line();
+        f(rt, F_WIDTHS[i], F_VALUES[i])?;
+        line(rt)?;
     }
+    Ok(())
 }
 
-fn all_su() {
+fn all_su(rt: &impl Print) -> io::Result<()> {
     for i in 0..12 {
-        su(SU_WIDTHS[i], SU_VALUES[i]);
-        line();
+        su(rt, SU_WIDTHS[i], SU_VALUES[i])?;
+        line(rt)?;
     }
+    Ok(())
 }
 
-fn all_uvlc() {
+fn all_uvlc(rt: &impl Print) -> io::Result<()> {
     for i in 0..9 {
-        uvlc(UVLC_VALUES[i]);
-        line();
+        uvlc(rt, UVLC_VALUES[i])?;
+        line(rt)?;
     }
+    Ok(())
 }
 
-fn all_leb128() {
+fn all_leb128(rt: &impl Print) -> io::Result<()> {
     for i in 0..9 {
-        leb128(LEB128_VALUES[i]);
-        line();
+        leb128(rt, LEB128_VALUES[i])?;
+        line(rt)?;
     }
+    Ok(())
 }
 
-fn all_narrow() {
-    text(b"su(7) su(9) -64 -256: ");
-    narrow(-64, -256);
-    line();
-    text(b"su(7) su(9) 64 0: ");
-    narrow(64, 0);
-    line();
-    text(b"su(7) su(9) 63 256: ");
-    narrow(63, 256);
-    line();
+fn all_narrow(rt: &impl Print) -> io::Result<()> {
+    text(rt, b"su(7) su(9) -64 -256: ")?;
+    narrow(rt, -64, -256)?;
+    line(rt)?;
+    text(rt, b"su(7) su(9) 64 0: ")?;
+    narrow(rt, 64, 0)?;
+    line(rt)?;
+    text(rt, b"su(7) su(9) 63 256: ")?;
+    narrow(rt, 63, 256)?;
+    line(rt)
 }
 
-fn only_read() {
-    text(b"84 80 00: ");
-    size(reader::leb128(&LONG_SIZE, start()));
-    line();
-    text(b"FF FF FF FF FF FF FF FF: ");
-    size(reader::leb128(&ENDLESS_SIZE, start()));
-    line();
-    text(b"80: ");
-    size(reader::leb128(&CUT_SIZE, start()));
-    line();
-    text(b"32 zeros: ");
-    number(reader::uvlc(&ZEROS, start(), NUM_TICKS_PER_PICTURE_MINUS_1, 0));
-    line();
+fn only_read(rt: &impl Print) -> io::Result<()> {
+    text(rt, b"84 80 00: ")?;
+    size(rt, reader::leb128(&LONG_SIZE, start()))?;
+    line(rt)?;
+    text(rt, b"FF FF FF FF FF FF FF FF: ")?;
+    size(rt, reader::leb128(&ENDLESS_SIZE, start()))?;
+    line(rt)?;
+    text(rt, b"80: ")?;
+    size(rt, reader::leb128(&CUT_SIZE, start()))?;
+    line(rt)?;
+    text(rt, b"32 zeros: ")?;
+    number(
+        rt,
+        reader::uvlc(&ZEROS, start(), NUM_TICKS_PER_PICTURE_MINUS_1, 0),
+    )?;
+    line(rt)
 }
 
-fn main() {
-    all_f();
-    all_su();
-    all_narrow();
-    all_uvlc();
-    all_leb128();
-    only_read();
+fn main(rt: HostRuntime) -> io::Result<()> {
+    all_f(&rt)?;
+    all_su(&rt)?;
+    all_narrow(&rt)?;
+    all_uvlc(&rt)?;
+    all_leb128(&rt)?;
+    only_read(&rt)
 }

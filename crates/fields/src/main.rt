@@ -5,62 +5,72 @@ use lines::input::*;
 use lines::parse::*;
 use listing::list::list;
 use listing::out::text;
+use std::io;
+use std::io::Read;
 
-fn copied(line: &[u8]) {
-    text(line);
-    text(b"\n");
+fn copied(rt: &impl Print, line: &[u8]) -> io::Result<()> {
+    text(rt, line)?;
+    text(rt, b"\n")
 }
 
-fn header(line: &[u8], bytes: &mut [u8]) {
+fn header(rt: &impl Print, line: &[u8], bytes: &mut [u8]) -> io::Result<()> {
     let b = hex(line, bytes);
     match b {
         Bytes::Count(n) => {
             if n <= bytes.len() {
-                list(&bytes[0..n]);
+                list(rt, &bytes[0..n])?;
             }
         }
-        Bytes::Bad => text(b"bad\n"),
+        Bytes::Bad => text(rt, b"bad\n")?,
     }
-    text(b"\n");
+    text(rt, b"\n")
 }
 
-fn one_line(line: &[u8], bytes: &mut [u8]) {
+fn one_line(rt: &impl Print, line: &[u8], bytes: &mut [u8]) -> io::Result<()> {
     if line.len() == 0 {
-        return;
+        return Ok(());
     }
     if line[0] == b'#' {
-        copied(line);
+        copied(rt, line)
     } else {
-        header(line, bytes);
+        header(rt, line, bytes)
     }
 }
 
 // A line that is too long for the slice is bad.
-fn answer(line: &[u8], l: Line, bytes: &mut [u8]) {
+fn answer(rt: &impl Print, line: &[u8], l: Line, bytes: &mut [u8]) -> io::Result<()> {
     if is_long(l) {
-        text(b"bad\n\n");
+        text(rt, b"bad\n\n")
     } else {
-        one_line(bytes_of(line, l), bytes);
+        one_line(rt, bytes_of(line, l), bytes)
     }
 }
 
-fn all(chunk: &mut [u8], line: &mut [u8], bytes: &mut [u8]) {
+fn all(
+    rt: &impl Print,
+    input: &mut impl Read,
+    chunk: &mut [u8],
+    line: &mut [u8],
+    bytes: &mut [u8],
+) -> io::Result<()> {
     let mut rest = start();
     let mut turns = u64::MAX;
     while 0 < turns {
         turns -= 1;
-        let l = next_line(chunk, rest, line);
+        let l = next_line(input, chunk, rest, line);
         if is_end(l) {
-            return;
+            return Ok(());
         }
-        answer(line, l, bytes);
+        answer(rt, line, l, bytes)?;
         rest = rest_of(l);
     }
+    Ok(())
 }
 
-fn main() {
-    let mut chunk = io::large_buffer();
+fn main(rt: HostRuntime) -> io::Result<()> {
+    let mut input = rt.stdin();
+    let mut chunk = [0u8; 65536];
     let mut line = [0u8; 131072];
-    let mut bytes = io::large_buffer();
-    all(&mut chunk, &mut line, &mut bytes);
+    let mut bytes = [0u8; 65536];
+    all(&rt, &mut input, &mut chunk, &mut line, &mut bytes)
 }

@@ -4,7 +4,7 @@ ghost use Rattle.words.specs.Text.{Put};
 ghost use Rattle.lines.specs.Hex.{upper};
 ghost use Rattle.lines.specs.Hex.{glyph as Hex·glyph};
 
-use libc::STDOUT_FILENO;
+use std::io;
 pub use words::put::{byte, decimal, text};
 
 // A digit of hex.
@@ -37,9 +37,9 @@ pub fn hex(out: &mut [u8], at: usize, s: &[u8]) -> usize
 }
 
 // Writes the bytes up to a place to standard output, in one call where the system takes them whole.
-pub fn write(out: &[u8], end: usize) -> bool {
+pub fn write(rt: &impl Print, out: &[u8], end: usize) -> io::Result<()> {
     if out.len() < end {
-        return io::write_all(STDOUT_FILENO, out);
+        return rt.write_all(out);
     }
-    io::write_all(STDOUT_FILENO, &out[0..end])
+    rt.write_all(&out[0..end])
 }

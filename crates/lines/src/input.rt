@@ -1,16 +1,16 @@
 // Lines out of standard input, by chunks.
 ghost use Rattle.std.specs.Prelude.{◌≤◌, length};
 
-use libc::STDIN_FILENO;
+use std::io::Read;
 
 // What is left of the last chunk: its bytes from at to end.
-#[derive(Drop)]
+#[derive(Clone, Copy)]
 pub struct Rest {
     pub at: usize,
     pub end: usize,
 }
 
-#[derive(Drop)]
+#[derive(Clone, Copy)]
 pub enum Line {
     // A line of so many bytes stands at the start of the lent slice, without its line end.
     Whole(usize, Rest),
@@ -21,7 +21,7 @@ pub enum Line {
 }
 
 // A line that is being read: how many bytes of it are in the slice, whether there were more, and whether its end, or the input's, was met.
-#[derive(Drop)]
+#[derive(Clone, Copy)]
 struct Partial {
     at: usize,
     end: usize,
@@ -31,8 +31,18 @@ struct Partial {
     is_over: bool,
 }
 
+// Reads once, into the start of a slice, and answers how many bytes there are: none at the end of the input, or where the read fails.
+fn some_read(input: &mut impl Read, buffer: &mut [u8]) -> usize
+    ensures { result ≤ length buffer.new }
+{
+    match input.read(buffer) {
+        Ok(n) => n,
+        Err(_) => 0,
+    }
+}
+
 // What is left of the chunk, or the next one where nothing is. It is empty at the end of the input, or where a read fails.
-fn filled(chunk: &mut [u8], at: usize, end: usize) -> Rest
+fn filled(input: &mut impl Read, chunk: &mut [u8], at: usize, end: usize) -> Rest
     ensures { (result.at ≤ result.end) × (result.end ≤ length chunk.new) }
 {
     if at < end {
@@ -40,9 +50,10 @@ fn filled(chunk: &mut [u8], at: usize, end: usize) -> Rest
             return Rest { at, end };
         }
     }
-    let got = libc::read(STDIN_FILENO, chunk);
-    let n = io::count(got, chunk);
-    Rest { at: 0, end: n }
+    Rest {
+        at: 0,
+        end: some_read(input, chunk),
+    }
 }
 
 // Copies the bytes of a part up to its first line end; at counts those that were used.
@@ -76,8 +87,8 @@ fn copied(part: &[u8], line: &mut [u8], p: Partial) -> Partial
 }
 
 // One chunk's share of a line.
-fn step(chunk: &mut [u8], line: &mut [u8], p: Partial) -> Partial {
-    let r = filled(chunk, p.at, p.end);
+fn step(input: &mut impl Read, chunk: &mut [u8], line: &mut [u8], p: Partial) -> Partial {
+    let r = filled(input, chunk, p.at, p.end);
     let at = r.at;
     let end = r.end;
     if end <= at {
@@ -119,7 +130,7 @@ fn finished(p: Partial) -> Line {
 
 // The next line. The last one may lack its line end. Nothing says that an input ends, and a proved loop has to:
 // it counts its turns down from a number that no run uses up.
-pub fn next_line(chunk: &mut [u8], rest: Rest, line: &mut [u8]) -> Line {
+pub fn next_line(input: &mut impl Read, chunk: &mut [u8], rest: Rest, line: &mut [u8]) -> Line {
     let mut p = Partial {
         at: rest.at,
         end: rest.end,
@@ -130,7 +141,7 @@ pub fn next_line(chunk: &mut [u8], rest: Rest, line: &mut [u8]) -> Line {
     };
     let mut turns = u64::MAX;
     while 0 < turns && !p.is_ended {
-        p = step(chunk, line, p);
+        p = step(input, chunk, line, p);
         turns -= 1;
     }
     finished(p)
@@ -174,4 +185,19 @@ pub fn bytes_of(line: &[u8], l: Line) -> &[u8] {
         }
         _ => &line[0..0],
     }
+}
+
+// Reads until a slice is full, the input ends or a read fails, and answers how many bytes stand at the slice's start.
+pub fn read_full(input: &mut impl Read, buffer: &mut [u8]) -> usize
+    ensures { result ≤ length buffer.new }
+{
+    let mut done = 0;
+    while done < buffer.len() {
+        let n = some_read(input, &mut buffer[done..]);
+        if n == 0 {
+            return done;
+        }
+        done += n;
+    }
+    done
 }

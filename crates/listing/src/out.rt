@@ -1,10 +1,10 @@
 // Text and numbers, to standard output.
-use libc::STDOUT_FILENO;
+use std::io;
 
-pub fn text(s: &[u8]) {
-    io::write_all(STDOUT_FILENO, s);
+pub fn text(rt: &impl Print, s: &[u8]) -> io::Result<()> {
+    rt.write_all(s)
 }
 
-pub fn decimal(n: u32) {
-    io::print_decimal(STDOUT_FILENO, n as u64);
+pub fn decimal(rt: &impl Print, n: u32) -> io::Result<()> {
+    rt.print(n)
 }

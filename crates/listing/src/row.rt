@@ -2,6 +2,7 @@
 use bits::answer::*;
 use lines::answer::*;
 use lines::signed::*;
+use std::io;
 
 // Where a row's numbers end, and its words begin.
 const PLACE: usize = 7;
@@ -24,7 +25,7 @@ pub enum Index {
 // Digits that end before a column; where they start.
 fn put_digits(line: &mut [u8], end: usize, n: u64) -> usize {
     let mut digits = [0u8; 20];
-    let k = io::decimal(n, &mut digits);
+    let k = decimal(&mut digits, 0, n);
     if k <= end {
         text(line, end - k, &digits[..k]);
         return end - k;
@@ -58,66 +59,94 @@ fn put_name(line: &mut [u8], name: &[u8], index: Index) {
     }
 }
 
-fn put_coded(line: &mut [u8], at: usize, width: usize, name: &[u8], index: Index, value: Number) {
+fn put_coded(
+    rt: &impl Print,
+    line: &mut [u8],
+    at: usize,
+    width: usize,
+    name: &[u8],
+    index: Index,
+    value: Number,
+) -> io::Result<()> {
     put_right(line, PLACE, at as u64);
     put_right(line, WIDTH, width as u64);
     put_name(line, name, index);
     put_value(line, value);
     let end = byte(line, VALUE, b'\n');
-    write(line, end);
+    write(rt, line, end)
 }
 
-fn coded(at: usize, width: usize, name: &[u8], index: Index, value: Number) {
+fn coded(
+    rt: &impl Print,
+    at: usize,
+    width: usize,
+    name: &[u8],
+    index: Index,
+    value: Number,
+) -> io::Result<()> {
     let mut line = [b' '; 83];
-    put_coded(&mut line, at, width, name, index, value);
+    put_coded(rt, &mut line, at, width, name, index, value)
 }
 
-fn put_uncoded(line: &mut [u8], name: &[u8], index: Index, value: Number, mark: &[u8]) {
+fn put_uncoded(
+    rt: &impl Print,
+    line: &mut [u8],
+    name: &[u8],
+    index: Index,
+    value: Number,
+    mark: &[u8],
+) -> io::Result<()> {
     byte(line, PLACE - 1, b'-');
     byte(line, WIDTH - 1, b'-');
     put_name(line, name, index);
     put_value(line, value);
     let end = text(line, MARK, mark);
     let end = byte(line, end, b'\n');
-    write(line, end);
+    write(rt, line, end)
 }
 
 // A mark has at most eight letters.
-fn uncoded(name: &[u8], index: Index, value: Number, mark: &[u8]) {
+fn uncoded(
+    rt: &impl Print,
+    name: &[u8],
+    index: Index,
+    value: Number,
+    mark: &[u8],
+) -> io::Result<()> {
     let mut line = [b' '; 83];
-    put_uncoded(&mut line, name, index, value, mark);
+    put_uncoded(rt, &mut line, name, index, value, mark)
 }
 
 // A field that the standard gives a value without coding it.
-pub fn inferred_at(name: &[u8], index: Index, value: u64) {
-    uncoded(name, index, natural(value), b"inferred");
+pub fn inferred_at(rt: &impl Print, name: &[u8], index: Index, value: u64) -> io::Result<()> {
+    uncoded(rt, name, index, natural(value), b"inferred")
 }
 
-pub fn inferred(name: &[u8], value: u64) {
-    inferred_at(name, Index::None, value);
+pub fn inferred(rt: &impl Print, name: &[u8], value: u64) -> io::Result<()> {
+    inferred_at(rt, name, Index::None, value)
 }
 
 // The same of a field that may be below 0.
-pub fn inferred_signed(name: &[u8], index: Index, value: i32) {
-    uncoded(name, index, signed(value), b"inferred");
+pub fn inferred_signed(rt: &impl Print, name: &[u8], index: Index, value: i32) -> io::Result<()> {
+    uncoded(rt, name, index, signed(value), b"inferred")
 }
 
 // A field that keeps the value that it had before.
-pub fn previous(name: &[u8], index: Index, value: i32) {
-    uncoded(name, index, signed(value), b"previous");
+pub fn previous(rt: &impl Print, name: &[u8], index: Index, value: i32) -> io::Result<()> {
+    uncoded(rt, name, index, signed(value), b"previous")
 }
 
-fn put_heading(line: &mut [u8]) {
+fn put_heading(rt: &impl Print, line: &mut [u8]) -> io::Result<()> {
     text(line, PLACE - 3, b"bit");
     text(line, WIDTH - 5, b"width");
     text(line, NAME, b"field");
     let end = text(line, VALUE - 5, b"value\n");
-    write(line, end);
+    write(rt, line, end)
 }
 
-pub fn heading() {
+pub fn heading(rt: &impl Print) -> io::Result<()> {
     let mut line = [b' '; 83];
-    put_heading(&mut line);
+    put_heading(rt, &mut line)
 }
 
 // Behind every input: where a walk goes on if a step is refused, so that each later step is refused too, and no more coded field has a row.
@@ -130,77 +159,108 @@ fn between(from: usize, to: usize) -> usize {
 }
 
 // The row of a field of n bits; the place behind it.
-pub fn f_at(s: &[u8], c: Cursor, n: u32, name: &[u8], index: Index) -> Cursor {
+pub fn f_at(
+    rt: &impl Print,
+    s: &[u8],
+    c: Cursor,
+    n: u32,
+    name: &[u8],
+    index: Index,
+) -> io::Result<Cursor> {
     let g = reader::f(s, c, n);
     let GotNumber::Value(value, next) = g else {
-        return lost();
+        return Ok(lost());
     };
-    coded(c.at, n as usize, name, index, natural(value as u64));
-    next
+    coded(rt, c.at, n as usize, name, index, natural(value as u64))?;
+    Ok(next)
 }
 
-pub fn f(s: &[u8], c: Cursor, n: u32, name: &[u8]) -> Cursor {
-    f_at(s, c, n, name, Index::None)
+pub fn f(rt: &impl Print, s: &[u8], c: Cursor, n: u32, name: &[u8]) -> io::Result<Cursor> {
+    f_at(rt, s, c, n, name, Index::None)
 }
 
 // A field of one bit.
-pub fn flag(s: &[u8], c: Cursor, name: &[u8]) -> Cursor {
-    f_at(s, c, 1, name, Index::None)
+pub fn flag(rt: &impl Print, s: &[u8], c: Cursor, name: &[u8]) -> io::Result<Cursor> {
+    f_at(rt, s, c, 1, name, Index::None)
 }
 
-pub fn uvlc(s: &[u8], c: Cursor, name: &[u8]) -> Cursor {
+pub fn uvlc(rt: &impl Print, s: &[u8], c: Cursor, name: &[u8]) -> io::Result<Cursor> {
     let g = reader::uvlc(s, c, 0, 0);
     let GotNumber::Value(value, next) = g else {
-        return lost();
+        return Ok(lost());
     };
     coded(
+        rt,
         c.at,
         between(c.at, next.at),
         name,
         Index::None,
         natural(value as u64),
-    );
-    next
+    )?;
+    Ok(next)
 }
 
 // The row of a field of n bits in two's complement.
-pub fn su_at(s: &[u8], c: Cursor, n: u32, name: &[u8], index: Index) -> Cursor {
+pub fn su_at(
+    rt: &impl Print,
+    s: &[u8],
+    c: Cursor,
+    n: u32,
+    name: &[u8],
+    index: Index,
+) -> io::Result<Cursor> {
     let g = reader::su(s, c, n);
     let GotSigned::Value(value, next) = g else {
-        return lost();
+        return Ok(lost());
     };
-    coded(c.at, n as usize, name, index, signed(value));
-    next
+    coded(rt, c.at, n as usize, name, index, signed(value))?;
+    Ok(next)
 }
 
-pub fn leb128(s: &[u8], c: Cursor, name: &[u8]) -> Cursor {
+pub fn leb128(rt: &impl Print, s: &[u8], c: Cursor, name: &[u8]) -> io::Result<Cursor> {
     let g = reader::leb128(s, c);
     let GotSize::Value(value, next) = g else {
-        return lost();
+        return Ok(lost());
     };
     coded(
+        rt,
         c.at,
         between(c.at, next.at),
         name,
         Index::None,
         natural(value),
-    );
-    next
+    )?;
+    Ok(next)
 }
 
 // A field of n bits that is coded, or else has an inferred value.
-pub fn f_if(s: &[u8], c: Cursor, is_coded: bool, n: u32, name: &[u8], value: u32) -> Cursor {
+pub fn f_if(
+    rt: &impl Print,
+    s: &[u8],
+    c: Cursor,
+    is_coded: bool,
+    n: u32,
+    name: &[u8],
+    value: u32,
+) -> io::Result<Cursor> {
     if is_coded {
-        return f(s, c, n, name);
+        return f(rt, s, c, n, name);
     }
-    inferred(name, value as u64);
-    c
+    inferred(rt, name, value as u64)?;
+    Ok(c)
 }
 
-pub fn flag_if(s: &[u8], c: Cursor, is_coded: bool, name: &[u8], value: bool) -> Cursor {
+pub fn flag_if(
+    rt: &impl Print,
+    s: &[u8],
+    c: Cursor,
+    is_coded: bool,
+    name: &[u8],
+    value: bool,
+) -> io::Result<Cursor> {
     if is_coded {
-        return flag(s, c, name);
+        return flag(rt, s, c, name);
     }
-    inferred(name, value as u64);
-    c
+    inferred(rt, name, value as u64)?;
+    Ok(c)
 }

@@ -5,31 +5,38 @@ use listing::refusal::refusal;
 use listing::row::*;
 use loop_filter_numbers::place;
 use loop_filter_reader::read::read_loop_filter_numbers;
+use std::io;
 
 // A delta that is not coded: the one before it, or the default where the filter is off.
-fn uncoded_delta(name: &[u8], i: usize, delta: i32, is_on: bool) {
+fn uncoded_delta(
+    rt: &impl Print,
+    name: &[u8],
+    i: usize,
+    delta: i32,
+    is_on: bool,
+) -> io::Result<()> {
     if is_on {
-        previous(name, Index::At(i), delta);
+        previous(rt, name, Index::At(i), delta)
     } else {
-        inferred_signed(name, Index::At(i), delta);
+        inferred_signed(rt, name, Index::At(i), delta)
     }
 }
 
-fn uncoded_deltas(n: &[i32; 20], is_on: bool) {
+fn uncoded_deltas(rt: &impl Print, n: &[i32; 20], is_on: bool) -> io::Result<()> {
     for i in 0..8 {
         let delta = n[place::LOOP_FILTER_REF_DELTAS + i];
-        uncoded_delta(b"loop_filter_ref_deltas", i, delta, is_on);
+        uncoded_delta(rt, b"loop_filter_ref_deltas", i, delta, is_on)?;
     }
     let delta = n[place::LOOP_FILTER_MODE_DELTAS];
-    uncoded_delta(b"loop_filter_mode_deltas", 0, delta, is_on);
+    uncoded_delta(rt, b"loop_filter_mode_deltas", 0, delta, is_on)?;
     let delta = n[place::LOOP_FILTER_MODE_DELTAS + 1];
-    uncoded_delta(b"loop_filter_mode_deltas", 1, delta, is_on);
+    uncoded_delta(rt, b"loop_filter_mode_deltas", 1, delta, is_on)
 }
 
-fn filter_off(n: &[i32; 20]) {
-    inferred_at(b"loop_filter_level", Index::At(0), 0);
-    inferred_at(b"loop_filter_level", Index::At(1), 0);
-    uncoded_deltas(n, false);
+fn filter_off(rt: &impl Print, n: &[i32; 20]) -> io::Result<()> {
+    inferred_at(rt, b"loop_filter_level", Index::At(0), 0)?;
+    inferred_at(rt, b"loop_filter_level", Index::At(1), 0)?;
+    uncoded_deltas(rt, n, false)
 }
 
 fn is_chroma_coded(planes: i32, level0: i32, level1: i32) -> bool {
@@ -39,34 +46,51 @@ fn is_chroma_coded(planes: i32, level0: i32, level1: i32) -> bool {
     level0 != 0 || level1 != 0
 }
 
-fn levels(s: &[u8], c: Cursor, n: &[i32; 20]) -> Cursor {
-    let c = f_at(s, c, 6, b"loop_filter_level", Index::At(0));
-    let c = f_at(s, c, 6, b"loop_filter_level", Index::At(1));
+fn levels(rt: &impl Print, s: &[u8], c: Cursor, n: &[i32; 20]) -> io::Result<Cursor> {
+    let c = f_at(rt, s, c, 6, b"loop_filter_level", Index::At(0))?;
+    let c = f_at(rt, s, c, 6, b"loop_filter_level", Index::At(1))?;
     let level0 = n[place::LOOP_FILTER_LEVEL];
     let level1 = n[place::LOOP_FILTER_LEVEL + 1];
     if is_chroma_coded(n[place::PLANES], level0, level1) {
-        let c = f_at(s, c, 6, b"loop_filter_level", Index::At(2));
-        return f_at(s, c, 6, b"loop_filter_level", Index::At(3));
+        let c = f_at(rt, s, c, 6, b"loop_filter_level", Index::At(2))?;
+        return f_at(rt, s, c, 6, b"loop_filter_level", Index::At(3));
     }
-    c
+    Ok(c)
 }
 
-fn delta(s: &[u8], c: Cursor, update: &[u8], name: &[u8], i: usize, old: i32) -> Cursor {
+fn delta(
+    rt: &impl Print,
+    s: &[u8],
+    c: Cursor,
+    update: &[u8],
+    name: &[u8],
+    i: usize,
+    old: i32,
+) -> io::Result<Cursor> {
     let is_coded = is_set(s, c);
-    let c = f_at(s, c, 1, update, Index::At(i));
+    let c = f_at(rt, s, c, 1, update, Index::At(i))?;
     if is_coded {
-        return su_at(s, c, 7, name, Index::At(i));
+        return su_at(rt, s, c, 7, name, Index::At(i));
     }
-    previous(name, Index::At(i), old);
-    c
+    previous(rt, name, Index::At(i), old)?;
+    Ok(c)
 }
 
-fn ref_delta(s: &[u8], c: Cursor, i: usize, old: i32) -> Cursor {
-    delta(s, c, b"update_ref_delta", b"loop_filter_ref_deltas", i, old)
-}
-
-fn mode_delta(s: &[u8], c: Cursor, i: usize, old: i32) -> Cursor {
+fn ref_delta(rt: &impl Print, s: &[u8], c: Cursor, i: usize, old: i32) -> io::Result<Cursor> {
     delta(
+        rt,
+        s,
+        c,
+        b"update_ref_delta",
+        b"loop_filter_ref_deltas",
+        i,
+        old,
+    )
+}
+
+fn mode_delta(rt: &impl Print, s: &[u8], c: Cursor, i: usize, old: i32) -> io::Result<Cursor> {
+    delta(
+        rt,
         s,
         c,
         b"update_mode_delta",
@@ -76,49 +100,56 @@ fn mode_delta(s: &[u8], c: Cursor, i: usize, old: i32) -> Cursor {
     )
 }
 
-fn deltas(s: &[u8], c: Cursor, n: &[i32; 20]) {
+fn deltas(rt: &impl Print, s: &[u8], c: Cursor, n: &[i32; 20]) -> io::Result<()> {
     let mut p = c;
     for i in 0..8 {
-        p = ref_delta(s, p, i, n[place::LOOP_FILTER_REF_DELTAS + i]);
+        p = ref_delta(rt, s, p, i, n[place::LOOP_FILTER_REF_DELTAS + i])?;
     }
-    let p = mode_delta(s, p, 0, n[place::LOOP_FILTER_MODE_DELTAS]);
-    mode_delta(s, p, 1, n[place::LOOP_FILTER_MODE_DELTAS + 1]);
+    let p = mode_delta(rt, s, p, 0, n[place::LOOP_FILTER_MODE_DELTAS])?;
+    mode_delta(rt, s, p, 1, n[place::LOOP_FILTER_MODE_DELTAS + 1])?;
+    Ok(())
 }
 
-fn delta_update(s: &[u8], c: Cursor, n: &[i32; 20]) {
-    let c = flag(s, c, b"loop_filter_delta_update");
+fn delta_update(rt: &impl Print, s: &[u8], c: Cursor, n: &[i32; 20]) -> io::Result<()> {
+    let c = flag(rt, s, c, b"loop_filter_delta_update")?;
     if n[place::LOOP_FILTER_DELTA_UPDATE] != 0 {
-        deltas(s, c, n);
+        deltas(rt, s, c, n)
     } else {
-        uncoded_deltas(n, true);
+        uncoded_deltas(rt, n, true)
     }
 }
 
-fn filter_on(s: &[u8], c: Cursor, n: &[i32; 20]) {
-    let c = levels(s, c, n);
-    let c = f(s, c, 3, b"loop_filter_sharpness");
-    let c = flag(s, c, b"loop_filter_delta_enabled");
+fn filter_on(rt: &impl Print, s: &[u8], c: Cursor, n: &[i32; 20]) -> io::Result<()> {
+    let c = levels(rt, s, c, n)?;
+    let c = f(rt, s, c, 3, b"loop_filter_sharpness")?;
+    let c = flag(rt, s, c, b"loop_filter_delta_enabled")?;
     if n[place::LOOP_FILTER_DELTA_ENABLED] != 0 {
-        delta_update(s, c, n);
+        delta_update(rt, s, c, n)
     } else {
-        uncoded_deltas(n, true);
+        uncoded_deltas(rt, n, true)
     }
 }
 
-fn loop_filter_params(s: &[u8], c: Cursor, n: &[i32; 20]) {
-    heading();
+fn loop_filter_params(rt: &impl Print, s: &[u8], c: Cursor, n: &[i32; 20]) -> io::Result<()> {
+    heading(rt)?;
     if n[place::CODED_LOSSLESS] != 0 || n[place::ALLOW_INTRABC] != 0 {
-        filter_off(n);
+        filter_off(rt, n)
     } else {
-        filter_on(s, c, n);
+        filter_on(rt, s, c, n)
     }
 }
 
 // The part from the bit `place` of `input` on, by the context that stands in the numbers, over the ten deltas before it.
-pub fn list(input: &[u8], place: u32, before: &[i32; 10], n: &mut [i32; 20]) {
+pub fn list(
+    rt: &impl Print,
+    input: &[u8],
+    place: u32,
+    before: &[i32; 10],
+    n: &mut [i32; 20],
+) -> io::Result<()> {
     let a = read_loop_filter_numbers(input, place, before, n);
     match a {
-        Answer::Done(_) => loop_filter_params(input, start(place), n),
-        Answer::Refused(r) => refusal(r),
+        Answer::Done(_) => loop_filter_params(rt, input, start(place), n),
+        Answer::Refused(r) => refusal(rt, r),
     }
 }

@@ -7,6 +7,8 @@ mod show;
 use cases::word;
 use cases::word::Word;
 use lines::input::*;
+use std::io;
+use std::io::Read;
 
 // A line's answer, put at the start of out. A line with no word, and one whose first word begins with `#`, has none.
 fn answer(line: &[u8], buffer: &mut [u8], out: &mut [u8]) -> usize {
@@ -40,25 +42,41 @@ fn answered(line: &[u8], l: Line, buffer: &mut [u8], out: &mut [u8]) -> usize {
     answer(bytes_of(line, l), buffer, out)
 }
 
-fn all(chunk: &mut [u8], line: &mut [u8], buffer: &mut [u8], out: &mut [u8]) {
+fn all(
+    rt: &impl Print,
+    input: &mut impl Read,
+    chunk: &mut [u8],
+    line: &mut [u8],
+    buffer: &mut [u8],
+    out: &mut [u8],
+) -> io::Result<()> {
     let mut rest = start();
     let mut turns = u64::MAX;
     while 0 < turns {
         turns -= 1;
-        let l = next_line(chunk, rest, line);
+        let l = next_line(input, chunk, rest, line);
         if is_end(l) {
-            return;
+            return Ok(());
         }
         let n = answered(line, l, buffer, out);
-        lines::answer::write(out, n);
+        lines::answer::write(rt, out, n)?;
         rest = rest_of(l);
     }
+    Ok(())
 }
 
-fn main() {
+fn main(rt: HostRuntime) -> io::Result<()> {
+    let mut input = rt.stdin();
     let mut chunk = [0u8; 65536];
     let mut line = [0u8; 200000];
     let mut buffer = [0u8; 100000];
     let mut out = [0u8; 200100];
-    all(&mut chunk, &mut line, &mut buffer, &mut out);
+    all(
+        &rt,
+        &mut input,
+        &mut chunk,
+        &mut line,
+        &mut buffer,
+        &mut out,
+    )
 }

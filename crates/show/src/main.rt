@@ -4,11 +4,13 @@
 ghost use Rattle.std.specs.Prelude.{◌<◌, ◌≤◌};
 
 use bits::answer::Refusal;
-use libc::{STDIN_FILENO, STDOUT_FILENO};
 use lines::answer::*;
+use lines::input::read_full;
 use listing::list::list;
 use listing::refusal::refusal;
 use listing::row::put_right;
+use std::io;
+use std::io::Read;
 
 fn smaller(a: usize, b: usize) -> usize
     ensures { result ≤ b }
@@ -17,7 +19,7 @@ fn smaller(a: usize, b: usize) -> usize
 }
 
 // A row of the dump: bytes, behind the bit place of the first.
-fn put_bytes(line: &mut [u8], place: u64, s: &[u8]) {
+fn put_bytes(rt: &impl Print, line: &mut [u8], place: u64, s: &[u8]) -> io::Result<()> {
     put_right(line, 7, place);
     let mut at = 8;
     for i in 0..s.len() {
@@ -25,42 +27,43 @@ fn put_bytes(line: &mut [u8], place: u64, s: &[u8]) {
         at = hex(line, at, &s[i..i + 1]);
     }
     let end = byte(line, at, b'\n');
-    write(line, end);
+    write(rt, line, end)
 }
 
 // The row with the number i: sixteen bytes, or what is left.
-fn dump_row(s: &[u8], i: usize)
+fn dump_row(rt: &impl Print, s: &[u8], i: usize) -> io::Result<()>
     requires { i < 4096 }
 {
     let from = i * 16;
     let to = smaller(from + 16, s.len());
     if from < to {
         let mut line = [b' '; 60];
-        put_bytes(&mut line, (from * 8) as u64, &s[from..to]);
+        put_bytes(rt, &mut line, (from * 8) as u64, &s[from..to])?;
     }
+    Ok(())
 }
 
 // At most 65,536 bytes.
-fn dump(s: &[u8]) {
+fn dump(rt: &impl Print, s: &[u8]) -> io::Result<()> {
     for i in 0..4096 {
-        dump_row(s, i);
+        dump_row(rt, s, i)?;
     }
-    io::write_all(STDOUT_FILENO, b"\n");
+    rt.write_all(b"\n")
 }
 
 // Whether there is more to read.
-fn is_more() -> bool {
+fn is_more(input: &mut impl Read) -> bool {
     let mut next = [0u8; 1];
-    io::read_full(STDIN_FILENO, &mut next) != 0
+    read_full(input, &mut next) != 0
 }
 
-fn main() {
-    let mut input = io::large_buffer();
-    let n = io::read_full(STDIN_FILENO, &mut input);
-    if is_more() {
-        refusal(Refusal::Long);
-    } else {
-        dump(&input[..n]);
-        list(&input[..n]);
+fn main(rt: HostRuntime) -> io::Result<()> {
+    let mut input = rt.stdin();
+    let mut bytes = [0u8; 65536];
+    let n = read_full(&mut input, &mut bytes);
+    if is_more(&mut input) {
+        return refusal(&rt, Refusal::Long);
     }
+    dump(&rt, &bytes[..n])?;
+    list(&rt, &bytes[..n])
 }
