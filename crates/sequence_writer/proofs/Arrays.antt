@@ -95,8 +95,8 @@ padded_inv w bs e =
     (j.0, j.2, ap (λ (y : Bits). j.0 ++ y) u ∙ j.4)
 
 -- written one behind the other
-pub pad : {w : Walk} {xs ys zs : List ℕ} {s t : Step} {d : Cursor} → Few 3139 w → Walked w origin xs s ys → s ≡ Next d → Walked (trailing_bits d.at) d ys t zs → Walked (padded w) origin xs t zs
-pad {ys = ys} {zs = zs} {t = t} {d = d} F g q h = hop g q (subst (λ (k : ℕ). Walked (trailing_bits k) d ys t zs) (passed F (omega arith) g q).1 h)
+pub pad : {n : ℕ} {w : Walk} {xs ys zs : List ℕ} {s t : Step} {d : Cursor} → Few n w → n ≤ 2000000 → Walked w origin xs s ys → s ≡ Next d → Walked (trailing_bits d.at) d ys t zs → Walked (padded w) origin xs t zs
+pad {ys = ys} {zs = zs} {t = t} {d = d} F l g q h = hop g q (subst (λ (k : ℕ). Walked (trailing_bits k) d ys t zs) (passed F l g q).1 h)
 
 -- Refusals
 end_of : (e : End) (n : ℕ) {r : Refusal} → Halted r ≡ ends e n → e ≡ refused r
@@ -181,18 +181,19 @@ module _ (t : ℕ) (h : ObuHeader) {hs gs : List ℕ} {s r : Step} {c d : Cursor
   pub head-count : Walked ((obu_header t).enc h) origin (replicate 10 0) s hs → s ≡ Next c → Walked (obu_size h.has_size_field k) c hs r gs → r ≡ Next d → d.at / 8 ≡ length (take (d.at / 8) gs)
   head-count g i o q = sym (length-take-le (d.at / 8) gs (head_room g i o q))
 
-pub strings_few : {v w y : Walk} {c : Cursor} {hs gs ps : List ℕ} {s r u : Step} (m n : ℕ) → Walked v origin (replicate 10 0) s hs → Walked w c hs r gs → Walked y origin (replicate 400 0) u ps
+pub strings_few : {v w y : Walk} {c : Cursor} {hs gs ps : List ℕ} {s r u : Step} (room m n : ℕ) → room ≤ 65526 → Walked v origin (replicate 10 0) s hs → Walked w c hs r gs → Walked y origin (replicate room 0) u ps
     → length (take m gs) + length (take n ps) ≤ 65536
-strings_few {gs = gs} {ps = ps} m n g o q = omega (arith, length-take m gs, length-take n ps, kept g, kept o, kept q, length-replicate {A = ℕ} 10 0, length-replicate {A = ℕ} 400 0)
+strings_few {gs = gs} {ps = ps} room m n l g o q = omega (arith, length-take m gs, length-take n ps, kept g, kept o, kept q, length-replicate {A = ℕ} 10 0, length-replicate {A = ℕ} room 0)
 
-module _ {A : Type 0} (p : Codec A) (v : A) {ps : List ℕ} {u : Step} {e : Cursor} where
-  pub payload_room : Few 3139 (p.enc v) → Walked (padded (p.enc v)) origin (replicate 400 0) u ps → u ≡ Next e → e.at / 8 ≤ length ps
-  payload_room F g q = omega (arith, (passed (padded-few F) (omega arith) g q).2, kept g, length-replicate {A = ℕ} 400 0)
+-- (The payload has at most `most` bits, and its array `room` bytes, which hold them and the trailing bits.)
+module _ {A : Type 0} (p : Codec A) (v : A) (most room : ℕ) (holds : most + 8 ≤ room * 8) (short : room ≤ 65526) {ps : List ℕ} {u : Step} {e : Cursor} where
+  pub payload_room : Few most (p.enc v) → Walked (padded (p.enc v)) origin (replicate room 0) u ps → u ≡ Next e → e.at / 8 ≤ length ps
+  payload_room F g q = omega (arith, (passed (padded-few F) (omega arith) g q).2, kept g, length-replicate {A = ℕ} room 0)
 
-  pub payload_count : Few 3139 (p.enc v) → Walked (padded (p.enc v)) origin (replicate 400 0) u ps → u ≡ Next e → e.at / 8 ≡ length (take (e.at / 8) ps)
+  pub payload_count : Few most (p.enc v) → Walked (padded (p.enc v)) origin (replicate room 0) u ps → u ≡ Next e → e.at / 8 ≡ length (take (e.at / 8) ps)
   payload_count F g q = sym (length-take-le (e.at / 8) ps (payload_room F g q))
 
-  pub once : (t : ℕ) (h : ObuHeader) {s r : Step} {c d : Cursor} {hs gs xs ys : List ℕ} {a : Answer} (k : ℕ) → Few 3139 (p.enc v) → Walked ((obu_header t).enc h) origin (replicate 10 0) s hs → s ≡ Next c → Walked (padded (p.enc v)) origin (replicate 400 0) u ps → u ≡ Next e
+  pub once : (t : ℕ) (h : ObuHeader) {s r : Step} {c d : Cursor} {hs gs xs ys : List ℕ} {a : Answer} (k : ℕ) → Few most (p.enc v) → Walked ((obu_header t).enc h) origin (replicate 10 0) s hs → s ≡ Next c → Walked (padded (p.enc v)) origin (replicate room 0) u ps → u ≡ Next e
       → k ≡ capped (e.at / 8) → Walked (obu_size h.has_size_field k) c hs r gs → r ≡ Next d → Writes (octets (take (d.at / 8) gs ++ take (e.at / 8) ps)) xs a ys → Writes ((obu t p).enc (h, v)) xs a ys
   once t h k F g i l j b o q w =
       let z = sized_few t h h.has_size_field k in
@@ -202,7 +203,7 @@ module _ {A : Type 0} (p : Codec A) (v : A) {ps : List ℕ} {u : Step} {e : Curs
       let n = padded_inv (p.enc v) _ y.0 in
       let b8 = ap length (sym n.2) ∙ frame_length n.0 in
       let X = leaves 10 m.2 z (omega arith) (omega arith) m.6 (hop g i o) q in
-      let Y = leaves 400 (bytes_for (length n.0)) (padded-few F) (omega arith) (omega arith) b8 l j in
+      let Y = leaves room (bytes_for (length n.0)) (padded-few F) (omega arith) (omega arith) b8 l j in
       writes_as (join_strings t p h v k _ _ _ _ x.0 y.0 (omega (arith, b, y.1, y.2, b8)) X.0 X.1 Y.0 Y.1) w
 
 -- Two strings written one behind the other

@@ -3,6 +3,7 @@ use mathlib.Core.Path.{◌≡◌}
 use mathlib.Core.List.{List, ◌++◌}
 use Prim.Native.Nat.{ℕ, ◌/◌}
 use lib.ListN.{length, take, replicate}
+use lib.Dec.{lit≤}
 use borrow.Author.Rules.{rules}
 use Rattle.bits.specs.Answers.{capped}
 use Rattle.bits.specs.Codec.{via}
@@ -42,7 +43,7 @@ written_once : (b : SequenceHeaderObu) (k : ℕ) {hs gs ps xs ys : List ℕ} {s 
     → Walked (padded (sequence_header_obu.enc (sequence_out b))) origin (replicate 400 0) u ps → u ≡ Next e → k ≡ capped (e.at / 8)
     → Walked (obu_size b.obu_header.has_size_field k) c hs r gs → r ≡ Next d → Writes (octets (take (d.at / 8) gs ++ take (e.at / 8) ps)) xs a ys → Writes (sequence_header.enc b) xs a ys
 unfolding sequence_header via
-written_once b k g i l j m o q w = once sequence_header_obu (sequence_out b) 1 b.obu_header k (few (sequence_out b)) g i l j m o q w
+written_once b k g i l j m o q w = once sequence_header_obu (sequence_out b) 3139 400 (lit≤ tt) (lit≤ tt) 1 b.obu_header k (few (sequence_out b)) g i l j m o q w
 
 pub returns-in_default : goal.returns-in_default
 returns-in_default c = search header_refused
@@ -60,13 +61,13 @@ pub slice_bounds-write_strings-end : goal.slice_bounds-write_strings-end
 slice_bounds-write_strings-end c = head-count 1 c.args.«record».obu_header c.capped.result c.header-s.ensures c.in-Next.is c.obu_size-s.ensures c.in-Next-s-2.is
 
 pub slice_bounds-payload-end : goal.slice_bounds-payload-end
-slice_bounds-payload-end c = payload_room sequence_header_obu (sequence_out c.args.«record») (few (sequence_out c.args.«record»)) c.padded_payload-s.ensures c.in-Next-s.is
+slice_bounds-payload-end c = payload_room sequence_header_obu (sequence_out c.args.«record») 3139 400 (lit≤ tt) (lit≤ tt) (few (sequence_out c.args.«record»)) c.padded_payload-s.ensures c.in-Next-s.is
 
 pub slice_bounds-write_strings-end-2 : goal.slice_bounds-write_strings-end-2
-slice_bounds-write_strings-end-2 c = payload_count sequence_header_obu (sequence_out c.args.«record») (few (sequence_out c.args.«record»)) c.padded_payload-s.ensures c.in-Next-s.is
+slice_bounds-write_strings-end-2 c = payload_count sequence_header_obu (sequence_out c.args.«record») 3139 400 (lit≤ tt) (lit≤ tt) (few (sequence_out c.args.«record»)) c.padded_payload-s.ensures c.in-Next-s.is
 
 pub write_strings-requires : goal.write_strings-requires
-write_strings-requires c = strings_few (c.in-Next-s-2.c.at / 8) (c.in-Next-s.end.at / 8) c.header-s.ensures c.obu_size-s.ensures c.padded_payload-s.ensures
+write_strings-requires c = strings_few 400 (c.in-Next-s-2.c.at / 8) (c.in-Next-s.end.at / 8) (lit≤ tt) c.header-s.ensures c.obu_size-s.ensures c.padded_payload-s.ensures
 
 pub returns : goal.returns
 returns c = written_once c.args.«record» c.capped.result c.header-s.ensures c.in-Next.is c.padded_payload-s.ensures c.in-Next-s.is c.capped.ensures c.obu_size-s.ensures c.in-Next-s-2.is c.write_strings.ensures
