@@ -10,9 +10,11 @@ are. Names of the kit that a file imports stay. --list writes the names, old and
 
 import os
 import re
+import subprocess
 import sys
 
-KIT = os.environ.get("RATTLE", "/opt/rattle/rattle")
+# the kit's library lies beside the page that `rt doc` names
+KIT = os.path.join(os.path.dirname(subprocess.run(["rt", "doc"], capture_output=True, text=True, check=True).stdout.strip()), "rattle")
 # a fact, whose name is that of a type
 FACTS = {"moved": "Moved", "wants": "Wants"}
 # lemmas that would have the name of what they speak of
