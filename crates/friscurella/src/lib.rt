@@ -1,4 +1,4 @@
-// The library for C: a record crosses as an array of numbers, in the order of the case lines.
+// The calls that the library for C exports (friscurella_c): a record crosses as an array of numbers, in the order of the case lines.
 #![tactic(auto)]
 
 pub mod calls; // calls.rt: the calls
