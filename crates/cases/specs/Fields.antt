@@ -1,21 +1,18 @@
--- What a field of a case line holds, by its kind: the letters f (a flag), n, b, d and h, as their ASCII codes.
-use Rattle.std.specs.Prelude.{Bool, cond, ℕ, ◌-◌, ◌^◌, ltb, eqb}
-use Rattle.cases.specs.declared.fields.Coded.{Coded}
-use Rattle.cases.specs.declared.fields.Coded.TheVariants.{Code, Bad}
+-- What a field of a case line holds, by its kind.
+use Rattle.std.specs.Prelude.{cond, ◌&&◌, ℕ, ◌-◌, ◌^◌, ℤ, pos, negsuc, int_le, Option, Some, None}
+use Rattle.std.specs.Int.{w32, cast_unsigned}
+use Rattle.std.specs.Ordering.{int_eq}
+use Rattle.cases.specs.declared.fields.Kind.{Kind}
+use Rattle.cases.specs.declared.fields.Kind.TheVariants.{F, N, B, D, H}
 
--- the largest number of n, b, d and h
-unfoldable pub most : ℕ → ℕ
-most kind = cond (eqb kind 98) 255 (cond (eqb kind 100) 127 (cond (eqb kind 104) 32767 (2 ^ 32 - 1)))
+-- a number from low to high as 32 bits: two's complement for a number below 0
+abbrev pub within : ℤ → ℤ → ℤ → Option ℕ
+within low high n = cond (int_le low n && int_le n high) (Some (cast_unsigned w32 n)) None
 
--- how far below 0 d and h go
-unfoldable pub most_below : ℕ → ℕ
-most_below kind = cond (eqb kind 100) 128 (cond (eqb kind 104) 32768 0)
-
--- a number, its sign and its magnitude, as the 32 bits of a field: 1 for a flag that is set, two's complement for a number below 0
-unfoldable pub coded : ℕ → Bool → ℕ → Coded
-coded kind negative m =
-    cond (eqb m 0) (Code 0)
-    (cond (eqb kind 102) (Code 1)
-    (cond negative
-    (cond (ltb (most_below kind) m) Bad (Code (2 ^ 32 - m)))
-    (cond (ltb (most kind) m) Bad (Code m))))
+-- a number as the 32 bits of a field: 1 for a flag that is set
+abbrev pub coded : Kind → ℤ → Option ℕ
+coded F n = Some (cond (int_eq n (pos 0)) 0 1)
+coded N n = within (pos 0) (pos (2 ^ 32 - 1)) n
+coded B n = within (pos 0) (pos 255) n
+coded D n = within (negsuc 127) (pos 127) n
+coded H n = within (negsuc 32767) (pos 32767) n

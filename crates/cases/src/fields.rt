@@ -1,190 +1,143 @@
-// A record's numbers out of a line. A row of letters says what each field holds:
-// f a flag (any number, and any but 0 sets it), n 0 to 2^32 - 1, b 0 to 255, d -128 to 127, h -32768 to 32767.
+// A record's numbers out of a line.
 ghost use Rattle.std.specs.Prelude.{◌≡◌};
-ghost use Rattle.cases.specs.Fields.{coded, most_below};
-ghost use Rattle.cases.specs.Fields.{most as Fields·most};
+ghost use Rattle.cases.specs.Fields as form;
 
-use crate::word::Word;
-use lines::parse::Numeral;
+use crate::word::{PartReader, Writer};
+use Kind::{B, D, F, H, N};
+use lines::parse::Words;
 use sequence_reader::place;
 
-#[derive(Drop)]
-pub enum Taken {
-    // The place behind the last number, and how many were taken.
-    Next(usize, usize),
-    Bad,
+// What a field holds.
+#[derive(Clone, Copy)]
+enum Kind {
+    F, // a flag: any number, and any but 0 sets it
+    N, // 0 to 2^32 - 1
+    B, // 0 to 255
+    D, // -128 to 127
+    H, // -32768 to 32767
 }
 
-// A field's number as 32 bits: two's complement, if the number is below 0.
-#[derive(Drop)]
-enum Coded {
-    Code(u32),
-    Bad,
-}
-
-fn most(kind: u8) -> u64
-    ensures { result ≡ Fields·most kind }
-{
-    if kind == b'b' {
-        return 255;
-    }
-    if kind == b'd' {
-        return 127;
-    }
-    if kind == b'h' {
-        return 32767;
-    }
-    4294967295
-}
-
-fn most_below(kind: u8) -> u64
-    ensures { result ≡ most_below kind }
-{
-    if kind == b'd' {
-        return 128;
-    }
-    if kind == b'h' {
-        return 32768;
-    }
-    0
-}
-
-fn code(kind: u8, negative: bool, magnitude: u64) -> Coded
-    ensures { result ≡ coded kind negative magnitude }
-{
-    if magnitude == 0 {
-        return Coded::Code(0);
-    }
-    if kind == b'f' {
-        return Coded::Code(1);
-    }
-    if negative {
-        if most_below(kind) < magnitude {
-            return Coded::Bad;
+impl Kind {
+    // A number as the 32 bits of a field: two's complement, if it is below 0. None, if the field does not hold it.
+    fn code(self, n: i64) -> Option<u32>
+        ensures { result ≡ form.coded self n }
+    {
+        match self {
+            F => Some((n != 0) as u32),
+            N => u32::try_from(n).ok(),
+            B => Some(u32::from(u8::try_from(n).ok()?)),
+            D => Some(i32::from(i8::try_from(n).ok()?).cast_unsigned()),
+            H => Some(i32::from(i16::try_from(n).ok()?).cast_unsigned()),
         }
-        return Coded::Code((4294967296 - magnitude) as u32);
-    }
-    if most(kind) < magnitude {
-        return Coded::Bad;
-    }
-    Coded::Code(magnitude as u32)
-}
-
-fn field(s: &[u8], kind: u8) -> Coded {
-    let n = lines::parse::number(s);
-    match n {
-        Numeral::Value(negative, magnitude) => code(kind, negative, magnitude),
-        Numeral::Bad => Coded::Bad,
     }
 }
 
-// Takes the next word's number, unless a number was bad before.
-fn take(line: &[u8], t: Taken, kind: u8, record: &mut [u32]) -> Taken {
-    let Taken::Next(at, count) = t else {
-        return Taken::Bad;
-    };
-    let w = lines::parse::next_word(line, at);
-    let from = w.from;
-    let to = w.to;
-    let f = field(&line[from..to], kind);
-    let Coded::Code(v) = f else {
-        return Taken::Bad;
-    };
-    if record.len() <= count {
-        return Taken::Bad;
-    }
-    record[count] = v;
-    Taken::Next(to, count + 1)
+// A record that is being filled: the words that are left, and how many of its numbers were taken.
+#[derive(Drop)]
+struct Fields<'a, 'l> {
+    words: &'a mut Words<'l>,
+    record: &'a mut [u32],
+    count: usize,
 }
 
-fn row(line: &[u8], t: Taken, kinds: &[u8], record: &mut [u32]) -> Taken {
-    let mut next = t;
-    for i in 0..kinds.len() {
-        next = take(line, next, kinds[i], record);
+impl Fields<'_, '_> {
+    // The next word's number.
+    fn next(&mut self, kind: Kind) -> Option<u32> {
+        kind.code(lines::parse::number(self.words.next()?)?)
     }
-    next
+
+    fn take(&mut self, kind: Kind) -> Option<()> {
+        let code = self.next(kind)?;
+        *self.record.get_mut(self.count)? = code;
+        self.count += 1;
+        Some(())
+    }
+
+    fn row(&mut self, kinds: &[Kind]) -> Option<()> {
+        for kind in kinds {
+            self.take(*kind)?;
+        }
+        Some(())
+    }
+
+    fn rows(&mut self, kinds: &[Kind], times: u32) -> Option<()> {
+        for _ in 0..times {
+            self.row(kinds)?;
+        }
+        Some(())
+    }
+
+    // The number of operating points, 0 to 32, and their numbers; the record's other points are kept.
+    fn points(&mut self) -> Option<()> {
+        let n = self.next(N)?;
+        if n > 32 {
+            return None;
+        }
+        self.rows(&[N, N, N, F, N, N, F, F, N], n)?;
+        self.count = place::FRAME_WIDTH_BITS_MINUS_1;
+        Some(())
+    }
+
+    fn sequence(&mut self) -> Option<()> {
+        self.row(&[N, F, F, N, N, N, F, F, F, N, N, F, N, F, B, N, N, N, F, N])?;
+        self.points()?;
+        self.row(&[B, B, N, N, F, N, N])?;
+        self.row(&[F, F, F, F, F, F, F, F, F, F, F, N, F, N, B, N, F, F, F])?;
+        self.row(&[F, F, F, F, N, N, N, F, F, F, N, F, N, F])
+    }
+
+    fn segmentation(&mut self) -> Option<()> {
+        self.row(&[N, F, F, F, F])?;
+        self.rows(&[F], 64)?;
+        self.rows(&[H], 64)
+    }
+
+    fn loop_filter(&mut self) -> Option<()> {
+        self.row(&[F, F, N, N, N, N, N, N, F, F])?;
+        self.rows(&[D], 10)
+    }
+
+    fn cdef(&mut self) -> Option<()> {
+        self.row(&[F, F, F, N, N, N])?;
+        self.rows(&[N], 32)
+    }
+
+    fn previous_deltas(&mut self) -> Option<()> {
+        self.row(&[F, F, N])?;
+        self.rows(&[D], 10)
+    }
 }
 
-fn rows(line: &[u8], t: Taken, kinds: &[u8], times: usize, record: &mut [u32]) -> Taken {
-    let mut next = t;
-    for _ in 0..times {
-        next = row(line, next, kinds, record);
-    }
-    next
-}
-
-// The number of operating points, 0 to 32, and their numbers; the record's other points are kept.
-fn points(line: &[u8], t: Taken, record: &mut [u32]) -> Taken {
-    let mut count = [0u32; 1];
-    let Taken::Next(at, first) = t else {
-        return Taken::Bad;
-    };
-    let k = take(line, Taken::Next(at, 0), b'n', &mut count);
-    let Taken::Next(at, _) = k else {
-        return Taken::Bad;
-    };
-    let n = count[0];
-    if 32 < n {
-        return Taken::Bad;
-    }
-    let p = rows(
-        line,
-        Taken::Next(at, first),
-        b"nnnfnnffn",
-        n as usize,
+// The numbers of a writer's record, into a record of zeros.
+pub fn numbers(writer: Writer, words: &mut Words, record: &mut [u32]) -> Option<()> {
+    let mut fields = Fields {
+        words,
         record,
-    );
-    let Taken::Next(at, _) = p else {
-        return Taken::Bad;
+        count: 0,
     };
-    Taken::Next(at, place::FRAME_WIDTH_BITS_MINUS_1)
+    match writer {
+        Writer::Seq => fields.sequence(),
+        Writer::Td => fields.row(&[N, F, F, N, N]),
+        Writer::Quant => fields.row(&[N, F, N, D, F, D, D, D, D, F, N, N, N]),
+        Writer::Seg => fields.segmentation(),
+        Writer::Lf => fields.loop_filter(),
+        Writer::Cdef => fields.cdef(),
+        Writer::Lr => fields.row(&[F, F, F, N, F, F, F, N, N, N, F, F, N, N]),
+    }
 }
 
-fn sequence(line: &[u8], t: Taken, record: &mut [u32]) -> Taken {
-    let t = row(line, t, b"nffnnnfffnnfnfbnnnfn", record);
-    let t = points(line, t, record);
-    let t = row(line, t, b"bbnnfnn", record);
-    let t = row(line, t, b"fffffffffffnfnbnfff", record);
-    row(line, t, b"ffffnnnfffnfnf", record)
-}
-
-fn segmentation(line: &[u8], t: Taken, record: &mut [u32]) -> Taken {
-    let t = row(line, t, b"nffff", record);
-    let t = rows(line, t, b"f", 64, record);
-    rows(line, t, b"h", 64, record)
-}
-
-fn loop_filter(line: &[u8], t: Taken, record: &mut [u32]) -> Taken {
-    let t = row(line, t, b"ffnnnnnnff", record);
-    rows(line, t, b"d", 10, record)
-}
-
-fn cdef(line: &[u8], t: Taken, record: &mut [u32]) -> Taken {
-    let t = row(line, t, b"fffnnn", record);
-    rows(line, t, b"n", 32, record)
-}
-
-fn previous_deltas(line: &[u8], t: Taken, record: &mut [u32]) -> Taken {
-    let t = row(line, t, b"ffn", record);
-    rows(line, t, b"d", 10, record)
-}
-
-// The numbers of a writer's record, or what the reader of a part goes by, from a place of the line on, into a record of zeros.
-pub fn numbers(word: Word, line: &[u8], at: usize, record: &mut [u32]) -> Taken {
-    let t = Taken::Next(at, 0);
-    match word {
-        Word::Seq => sequence(line, t, record),
-        Word::Td => row(line, t, b"nffnn", record),
-        Word::Quant => row(line, t, b"nfndfddddfnnn", record),
-        Word::Seg => segmentation(line, t, record),
-        Word::Lf => loop_filter(line, t, record),
-        Word::Cdef => cdef(line, t, record),
-        Word::Lr => row(line, t, b"fffnfffnnnffnn", record),
-        Word::Rquant => row(line, t, b"nf", record),
-        Word::Rseg => row(line, t, b"n", record),
-        Word::Rlf => previous_deltas(line, t, record),
-        Word::Rcdef => row(line, t, b"fffn", record),
-        Word::Rlr => row(line, t, b"fffnfff", record),
-        _ => Taken::Bad,
+// What the reader of a part goes by, into a record of zeros.
+pub fn context(reader: PartReader, words: &mut Words, record: &mut [u32]) -> Option<()> {
+    let mut fields = Fields {
+        words,
+        record,
+        count: 0,
+    };
+    match reader {
+        PartReader::Quant => fields.row(&[N, F]),
+        PartReader::Seg => fields.row(&[N]),
+        PartReader::Lf => fields.previous_deltas(),
+        PartReader::Cdef => fields.row(&[F, F, F, N]),
+        PartReader::Lr => fields.row(&[F, F, F, N, F, F, F]),
     }
 }

@@ -1,27 +1,10 @@
 // Numbers that may be below 0, as the calls take them.
-ghost use Rattle.std.specs.Prelude.{◌≡◌};
-ghost use Rattle.std.specs.Int.{w32};
-ghost use Rattle.std.proofs.Common.{to_z};
 
-// A number of 32 bits in two's complement.
-fn signed(code: u32) -> i32
-    ensures { result ≡ to_z w32 code }
-{
-    if code < 2147483648 {
-        code as i32
-    } else {
-        -1 - (4294967295 - code) as i32
+// The numbers of a record in two's complement, as many as the call takes; 0 where the record has no more.
+pub fn signed<const N: usize>(record: &[u32]) -> [i32; N] {
+    let mut numbers = [0i32; N];
+    for (number, code) in numbers.iter_mut().zip(record) {
+        *number = code.cast_signed();
     }
-}
-
-// The numbers of a record, as many as there is room for.
-pub fn all_signed(record: &[u32], to: &mut [i32]) {
-    let mut i = 0;
-    while i < to.len() {
-        if record.len() <= i {
-            return;
-        }
-        to[i] = signed(record[i]);
-        i += 1;
-    }
+    numbers
 }

@@ -1,8 +1,15 @@
 // The word that a case line begins with.
-use lines::parse::same;
 
-#[derive(Clone, Copy)]
+#[derive(Clone, Copy, PartialEq, Eq, Debug)]
 pub enum Word {
+    Write(Writer),
+    Read,
+    Payload,
+    ReadPart(PartReader),
+}
+
+#[derive(Clone, Copy, PartialEq, Eq, Debug)]
+pub enum Writer {
     Seq,
     Td,
     Quant,
@@ -10,83 +17,44 @@ pub enum Word {
     Lf,
     Cdef,
     Lr,
-    Read,
-    Payload,
-    Rquant,
-    Rseg,
-    Rlf,
-    Rcdef,
-    Rlr,
-    Unknown,
 }
 
-pub fn named(s: &[u8]) -> Word {
-    if same(s, b"seq") {
-        return Word::Seq;
-    }
-    if same(s, b"td") {
-        return Word::Td;
-    }
-    if same(s, b"quant") {
-        return Word::Quant;
-    }
-    if same(s, b"seg") {
-        return Word::Seg;
-    }
-    if same(s, b"lf") {
-        return Word::Lf;
-    }
-    if same(s, b"cdef") {
-        return Word::Cdef;
-    }
-    if same(s, b"lr") {
-        return Word::Lr;
-    }
-    if same(s, b"read") {
-        return Word::Read;
-    }
-    if same(s, b"payload") {
-        return Word::Payload;
-    }
-    part_reader(s)
+// A part's reader takes an input, and by numbers that stand before its settings what the part goes by.
+#[derive(Clone, Copy, PartialEq, Eq, Debug)]
+pub enum PartReader {
+    Quant,
+    Seg,
+    Lf,
+    Cdef,
+    Lr,
 }
 
-fn part_reader(s: &[u8]) -> Word {
-    if same(s, b"rquant") {
-        return Word::Rquant;
-    }
-    if same(s, b"rseg") {
-        return Word::Rseg;
-    }
-    if same(s, b"rlf") {
-        return Word::Rlf;
-    }
-    if same(s, b"rcdef") {
-        return Word::Rcdef;
-    }
-    if same(s, b"rlr") {
-        return Word::Rlr;
-    }
-    Word::Unknown
-}
-
-// Whether the word reads a part, from an input and by numbers that stand before its settings.
-pub fn reads_part(w: Word) -> bool {
-    match w {
-        Word::Rquant => true,
-        Word::Rseg => true,
-        Word::Rlf => true,
-        Word::Rcdef => true,
-        Word::Rlr => true,
-        _ => false,
+impl Word {
+    pub fn named(name: &[u8]) -> Option<Word> {
+        let word = match name {
+            b"seq" => Word::Write(Writer::Seq),
+            b"td" => Word::Write(Writer::Td),
+            b"quant" => Word::Write(Writer::Quant),
+            b"seg" => Word::Write(Writer::Seg),
+            b"lf" => Word::Write(Writer::Lf),
+            b"cdef" => Word::Write(Writer::Cdef),
+            b"lr" => Word::Write(Writer::Lr),
+            b"read" => Word::Read,
+            b"payload" => Word::Payload,
+            b"rquant" => Word::ReadPart(PartReader::Quant),
+            b"rseg" => Word::ReadPart(PartReader::Seg),
+            b"rlf" => Word::ReadPart(PartReader::Lf),
+            b"rcdef" => Word::ReadPart(PartReader::Cdef),
+            b"rlr" => Word::ReadPart(PartReader::Lr),
+            _ => return None,
+        };
+        Some(word)
     }
 }
 
-// Only the parts stand at a bit place.
-pub fn has_place(w: Word) -> bool {
-    match w {
-        Word::Seq => false,
-        Word::Td => false,
-        _ => true,
+impl Writer {
+    // Only the parts stand at a bit place.
+    pub fn has_place(self) -> bool {
+        !matches!(self, Writer::Seq | Writer::Td)
     }
 }

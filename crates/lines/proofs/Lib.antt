@@ -1,4 +1,4 @@
 pub mod Hexes
-pub mod Uppers
 pub mod RoundTrip
 pub mod Texts
+pub mod Uppers

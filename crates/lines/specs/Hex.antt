@@ -1,20 +1,17 @@
 -- Bytes in hex, two digits each.
-use Rattle.std.specs.Prelude.{◌≡◌, Bool, true, false, cond, List, [], ◌∷◌, ◌++◌, ℕ, ◌+◌, ◌-◌, ◌*◌, ◌/◌, ◌%◌, ◌<◌, ltb, length, drop}
+use Rattle.std.specs.Prelude.{◌≡◌, cond, List, [], ◌∷◌, ◌++◌, ℕ, ◌+◌, ◌-◌, ◌*◌, ◌/◌, ◌%◌, ◌<◌, ltb, length, drop, Option, Some, None}
+use Rattle.std.specs.Option.{option_and_then, option_map}
 use Rattle.lines.specs.Text.{hex_digit}
-use Rattle.lines.specs.declared.parse.Bytes.{Bytes}
-use Rattle.lines.specs.declared.parse.Bytes.TheVariants.{Count, Bad}
 
--- whether a text is hex digits, even in number
-unfoldable pub are_hex : List ℕ → Bool
-are_hex [] = true
-are_hex (a ∷ []) = false
-are_hex (a ∷ b ∷ s) = cond (ltb 15 (hex_digit a)) false (cond (ltb 15 (hex_digit b)) false (are_hex s))
+-- the byte of two digits
+abbrev pub byte : ℕ → ℕ → Option ℕ
+byte a b = option_and_then (λ high. option_map (λ low. 16 * high + low) (hex_digit b)) (hex_digit a)
 
--- the bytes of hex digits
-unfoldable pub pairs : List ℕ → List ℕ
-pairs [] = []
-pairs (a ∷ []) = []
-pairs (a ∷ b ∷ s) = (16 * hex_digit a + hex_digit b) ∷ pairs s
+-- the bytes of a text that is hex digits, even in number
+unfoldable pub bytes : List ℕ → Option (List ℕ)
+bytes [] = Some []
+bytes (a ∷ []) = None
+bytes (a ∷ b ∷ s) = option_and_then (λ first. option_map (λ rest. first ∷ rest) (bytes s)) (byte a b)
 
 -- the digit of a value below 16, in upper case
 abbrev pub glyph : ℕ → ℕ
@@ -26,6 +23,6 @@ upper [] = []
 upper (b ∷ s) = glyph (b / 16) ∷ glyph (b % 16) ∷ upper s
 
 -- A text is read as its bytes, at the start of a slice whose other bytes are kept; or it is not hex, or the slice is too short.
-abbrev pub Hexed : List ℕ → List ℕ → Bytes → List ℕ → Type 0
-Hexed s before (Count n) after = (are_hex s ≡ true) × (n ≡ length (pairs s)) × (after ≡ pairs s ++ drop n before)
-Hexed s before Bad after = are_hex s ≡ true → length before < length (pairs s)
+abbrev pub Hexed : List ℕ → List ℕ → Option ℕ → List ℕ → Type 0
+Hexed s before (Some n) after = (read : List ℕ) × (bytes s ≡ Some read) × (n ≡ length read) × (after ≡ read ++ drop n before)
+Hexed s before None after = (read : List ℕ) → bytes s ≡ Some read → length before < length read

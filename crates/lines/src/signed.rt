@@ -1,25 +1,35 @@
-// A number with a sign, as it is printed.
+// A number with a sign, as it is printed: any of a u64 and any of an i32, which no signed type of 64 bits holds both.
+use words::put::Text;
 
-#[derive(Drop)]
+#[derive(Clone, Copy, PartialEq, Eq, Debug)]
 pub struct Number {
-    pub is_negative: bool,
-    pub magnitude: u64,
+    is_negative: bool,
+    magnitude: u64,
 }
 
-pub fn natural(n: u64) -> Number {
-    Number {
-        is_negative: false,
-        magnitude: n,
+impl From<u64> for Number {
+    fn from(n: u64) -> Self {
+        Number {
+            is_negative: false,
+            magnitude: n,
+        }
     }
 }
 
-pub fn signed(n: i32) -> Number {
-    if n < 0 {
-        let less = -1 - n;
-        return Number {
-            is_negative: true,
-            magnitude: less as u64 + 1,
-        };
+impl From<i32> for Number {
+    fn from(n: i32) -> Self {
+        Number {
+            is_negative: n < 0,
+            magnitude: u64::from(n.unsigned_abs()),
+        }
     }
-    natural(n as u64)
+}
+
+impl Number {
+    pub fn put(self, out: &mut Text) {
+        if self.is_negative {
+            out.byte(b'-');
+        }
+        out.decimal(self.magnitude);
+    }
 }

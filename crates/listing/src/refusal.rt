@@ -1,17 +1,18 @@
 // A refusal: document 01's number, and its sentence.
 use crate::out::*;
 use bits::answer::*;
-use lines::answer::write;
+use lines::answer::Text;
 use std::io;
-use words::explain;
+use words::sentence::sentence;
 
 pub fn refusal(rt: &impl Print, r: Refusal) -> io::Result<()> {
     let n = numbers(r);
-    let mut sentence = [0u8; 105];
-    let length = explain(&[n.number, n.first, n.second, n.third], &mut sentence);
+    let mut whole = [0u8; 104];
+    let mut out = Text::new(&mut whole);
+    sentence(&mut out, &[n.number, n.first, n.second, n.third]);
     text(rt, b"refused ")?;
     decimal(rt, n.number)?;
     text(rt, b": ")?;
-    write(rt, &sentence, length as usize)?;
+    text(rt, out.written())?;
     text(rt, b"\n")
 }

@@ -1,7 +1,9 @@
 // One row: place, width, name and value, in columns. A field that is not coded has `-` for place and width, and a mark that says where its value is from.
+ghost use Rattle.std.specs.Prelude.{◌≤◌};
+
 use bits::answer::*;
-use lines::answer::*;
-use lines::signed::*;
+use lines::answer::Text;
+use lines::signed::Number;
 use std::io;
 
 // Where a row's numbers end, and its words begin.
@@ -15,6 +17,9 @@ const VALUE: usize = 72;
 
 const MARK: usize = 74;
 
+// The longest line: a mark and its end.
+const LINE: usize = 83;
+
 // The place in an array of a field that repeats.
 #[derive(Drop)]
 pub enum Index {
@@ -22,58 +27,30 @@ pub enum Index {
     At(usize),
 }
 
-// Digits that end before a column; where they start.
-fn put_digits(line: &mut [u8], end: usize, n: u64) -> usize {
-    let mut digits = [0u8; 20];
-    let k = decimal(&mut digits, 0, n);
-    if k <= end {
-        text(line, end - k, &digits[..k]);
-        return end - k;
-    }
-    end
-}
-
 // A number that ends before a column.
-pub fn put_right(line: &mut [u8], end: usize, n: u64) {
-    put_digits(line, end, n);
-}
-
-fn put_value(line: &mut [u8], value: Number) {
-    let at = put_digits(line, VALUE, value.magnitude);
-    if value.is_negative {
-        if 0 < at {
-            byte(line, at - 1, b'-');
+pub fn put_right(line: &mut [u8], end: usize, n: Number) {
+    let mut digits = [0u8; 21];
+    let mut out = Text::new(&mut digits);
+    n.put(&mut out);
+    let digits = out.written();
+    if digits.len() <= end {
+        if let Some(room) = line.get_mut(end - digits.len()..end) {
+            room.copy_from_slice(digits);
         }
     }
 }
 
-fn put_name(line: &mut [u8], name: &[u8], index: Index) {
-    let at = text(line, NAME, name);
+fn put_name(line: &mut [u8; LINE], name: &[u8], index: Index) {
+    let mut out = Text::new(&mut line[NAME..]);
+    out.text(name);
     match index {
         Index::None => {}
         Index::At(i) => {
-            let at = byte(line, at, b'[');
-            let at = decimal(line, at, i as u64);
-            byte(line, at, b']');
+            out.byte(b'[');
+            out.decimal(i as u64);
+            out.byte(b']');
         }
     }
-}
-
-fn put_coded(
-    rt: &impl Print,
-    line: &mut [u8],
-    at: usize,
-    width: usize,
-    name: &[u8],
-    index: Index,
-    value: Number,
-) -> io::Result<()> {
-    put_right(line, PLACE, at as u64);
-    put_right(line, WIDTH, width as u64);
-    put_name(line, name, index);
-    put_value(line, value);
-    let end = byte(line, VALUE, b'\n');
-    write(rt, line, end)
 }
 
 fn coded(
@@ -84,25 +61,24 @@ fn coded(
     index: Index,
     value: Number,
 ) -> io::Result<()> {
-    let mut line = [b' '; 83];
-    put_coded(rt, &mut line, at, width, name, index, value)
+    let mut line = [b' '; LINE];
+    put_right(&mut line, PLACE, Number::from(at as u64));
+    put_right(&mut line, WIDTH, Number::from(width as u64));
+    put_name(&mut line, name, index);
+    put_right(&mut line, VALUE, value);
+    let end = put_end(&mut line, VALUE, b"");
+    rt.write_all(&line[..end])
 }
 
-fn put_uncoded(
-    rt: &impl Print,
-    line: &mut [u8],
-    name: &[u8],
-    index: Index,
-    value: Number,
-    mark: &[u8],
-) -> io::Result<()> {
-    byte(line, PLACE - 1, b'-');
-    byte(line, WIDTH - 1, b'-');
-    put_name(line, name, index);
-    put_value(line, value);
-    let end = text(line, MARK, mark);
-    let end = byte(line, end, b'\n');
-    write(rt, line, end)
+// Puts a mark and the line's end; where the line ends.
+fn put_end(line: &mut [u8; LINE], at: usize, mark: &[u8]) -> usize
+    requires { at ≤ 83 }
+    ensures { result ≤ 83 }
+{
+    let mut out = Text::new(&mut line[at..]);
+    out.text(mark);
+    out.byte(b'\n');
+    at + out.written().len()
 }
 
 // A mark has at most eight letters.
@@ -113,13 +89,18 @@ fn uncoded(
     value: Number,
     mark: &[u8],
 ) -> io::Result<()> {
-    let mut line = [b' '; 83];
-    put_uncoded(rt, &mut line, name, index, value, mark)
+    let mut line = [b' '; LINE];
+    line[PLACE - 1] = b'-';
+    line[WIDTH - 1] = b'-';
+    put_name(&mut line, name, index);
+    put_right(&mut line, VALUE, value);
+    let end = put_end(&mut line, MARK, mark);
+    rt.write_all(&line[..end])
 }
 
 // A field that the standard gives a value without coding it.
 pub fn inferred_at(rt: &impl Print, name: &[u8], index: Index, value: u64) -> io::Result<()> {
-    uncoded(rt, name, index, natural(value), b"inferred")
+    uncoded(rt, name, index, Number::from(value), b"inferred")
 }
 
 pub fn inferred(rt: &impl Print, name: &[u8], value: u64) -> io::Result<()> {
@@ -128,25 +109,21 @@ pub fn inferred(rt: &impl Print, name: &[u8], value: u64) -> io::Result<()> {
 
 // The same of a field that may be below 0.
 pub fn inferred_signed(rt: &impl Print, name: &[u8], index: Index, value: i32) -> io::Result<()> {
-    uncoded(rt, name, index, signed(value), b"inferred")
+    uncoded(rt, name, index, Number::from(value), b"inferred")
 }
 
 // A field that keeps the value that it had before.
 pub fn previous(rt: &impl Print, name: &[u8], index: Index, value: i32) -> io::Result<()> {
-    uncoded(rt, name, index, signed(value), b"previous")
-}
-
-fn put_heading(rt: &impl Print, line: &mut [u8]) -> io::Result<()> {
-    text(line, PLACE - 3, b"bit");
-    text(line, WIDTH - 5, b"width");
-    text(line, NAME, b"field");
-    let end = text(line, VALUE - 5, b"value\n");
-    write(rt, line, end)
+    uncoded(rt, name, index, Number::from(value), b"previous")
 }
 
 pub fn heading(rt: &impl Print) -> io::Result<()> {
-    let mut line = [b' '; 83];
-    put_heading(rt, &mut line)
+    let mut line = [b' '; LINE];
+    line[PLACE - 3..PLACE].copy_from_slice(b"bit");
+    line[WIDTH - 5..WIDTH].copy_from_slice(b"width");
+    line[NAME..NAME + 5].copy_from_slice(b"field");
+    line[VALUE - 5..VALUE + 1].copy_from_slice(b"value\n");
+    rt.write_all(&line[..VALUE + 1])
 }
 
 // Behind every input: where a walk goes on if a step is refused, so that each later step is refused too, and no more coded field has a row.
@@ -171,7 +148,14 @@ pub fn f_at(
     let GotNumber::Value(value, next) = g else {
         return Ok(lost());
     };
-    coded(rt, c.at, n as usize, name, index, natural(value as u64))?;
+    coded(
+        rt,
+        c.at,
+        n as usize,
+        name,
+        index,
+        Number::from(value as u64),
+    )?;
     Ok(next)
 }
 
@@ -195,7 +179,7 @@ pub fn uvlc(rt: &impl Print, s: &[u8], c: Cursor, name: &[u8]) -> io::Result<Cur
         between(c.at, next.at),
         name,
         Index::None,
-        natural(value as u64),
+        Number::from(value as u64),
     )?;
     Ok(next)
 }
@@ -213,7 +197,7 @@ pub fn su_at(
     let GotSigned::Value(value, next) = g else {
         return Ok(lost());
     };
-    coded(rt, c.at, n as usize, name, index, signed(value))?;
+    coded(rt, c.at, n as usize, name, index, Number::from(value))?;
     Ok(next)
 }
 
@@ -228,7 +212,7 @@ pub fn leb128(rt: &impl Print, s: &[u8], c: Cursor, name: &[u8]) -> io::Result<C
         between(c.at, next.at),
         name,
         Index::None,
-        natural(value),
+        Number::from(value),
     )?;
     Ok(next)
 }

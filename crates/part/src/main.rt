@@ -2,13 +2,10 @@
 // passed over.
 #![tactic(auto)]
 
-use cases::fields::Taken;
-use cases::settings::Parsed;
-use cases::signed::all_signed;
-use cases::word;
-use cases::word::Word;
-use lines::input::*;
-use lines::parse::*;
+use cases::signed::signed;
+use cases::word::{PartReader, Word};
+use lines::input::{LineReader, TooLong};
+use lines::parse::Words;
 use listing::out::text;
 use std::io;
 use std::io::Read;
@@ -16,76 +13,53 @@ use std::io::Read;
 // What a part's reader goes by: at most the three numbers of the loop filter's context and the ten deltas before it.
 const NUMBERS: usize = 13;
 
-fn rquant(rt: &impl Print, context: &[u32; NUMBERS], place: u32, input: &[u8]) -> io::Result<()> {
-    let mut n = [0i32; 13];
-    all_signed(context, &mut n);
-    part_listing::quantization_params::list(rt, input, place, &mut n)
-}
-
-fn rseg(rt: &impl Print, context: &[u32; NUMBERS], place: u32, input: &[u8]) -> io::Result<()> {
-    let mut n = [0i32; 133];
-    all_signed(context, &mut n);
-    part_listing::segmentation_params::list(rt, input, place, &mut n)
-}
-
-fn rlf(rt: &impl Print, context: &[u32; NUMBERS], place: u32, input: &[u8]) -> io::Result<()> {
-    let mut n = [0i32; 20];
-    let mut before = [0i32; 10];
-    all_signed(context, &mut n);
-    let whole = &context[..];
-    all_signed(&whole[3..], &mut before);
-    part_listing::loop_filter_params::list(rt, input, place, &before, &mut n)
-}
-
-fn rcdef(rt: &impl Print, context: &[u32; NUMBERS], place: u32, input: &[u8]) -> io::Result<()> {
-    let mut n = [0i32; 38];
-    all_signed(context, &mut n);
-    part_listing::cdef_params::list(rt, input, place, &mut n)
-}
-
-fn rlr(rt: &impl Print, context: &[u32; NUMBERS], place: u32, input: &[u8]) -> io::Result<()> {
-    let mut n = [0i32; 14];
-    all_signed(context, &mut n);
-    part_listing::lr_params::list(rt, input, place, &mut n)
-}
-
 fn bad(rt: &impl Print) -> io::Result<()> {
     text(rt, b"bad\n")
 }
 
 fn list(
     rt: &impl Print,
-    word: Word,
+    reader: PartReader,
     context: &[u32; NUMBERS],
     place: u32,
     input: &[u8],
 ) -> io::Result<()> {
-    match word {
-        Word::Rquant => rquant(rt, context, place, input),
-        Word::Rseg => rseg(rt, context, place, input),
-        Word::Rlf => rlf(rt, context, place, input),
-        Word::Rcdef => rcdef(rt, context, place, input),
-        Word::Rlr => rlr(rt, context, place, input),
-        _ => bad(rt),
+    match reader {
+        PartReader::Quant => {
+            part_listing::quantization_params::list(rt, input, place, &mut signed(context))
+        }
+        PartReader::Seg => {
+            part_listing::segmentation_params::list(rt, input, place, &mut signed(context))
+        }
+        PartReader::Lf => {
+            let before = signed(&context[3..]);
+            part_listing::loop_filter_params::list(rt, input, place, &before, &mut signed(context))
+        }
+        PartReader::Cdef => {
+            part_listing::cdef_params::list(rt, input, place, &mut signed(context))
+        }
+        PartReader::Lr => part_listing::lr_params::list(rt, input, place, &mut signed(context)),
     }
 }
 
-// The case whose word ends at a place.
-fn case(rt: &impl Print, word: Word, line: &[u8], at: usize, bytes: &mut [u8]) -> io::Result<()> {
+// The case whose other words are left.
+fn case(
+    rt: &impl Print,
+    reader: PartReader,
+    words: &mut Words,
+    bytes: &mut [u8],
+) -> io::Result<()> {
     let mut context = [0u32; NUMBERS];
-    let t = cases::fields::numbers(word, line, at, &mut context);
-    let Taken::Next(at, _) = t else {
+    if cases::fields::context(reader, words, &mut context).is_none() {
         return bad(rt);
-    };
-    let s = cases::settings::settings(line, at, true, true, bytes);
-    let Parsed::Next(s) = s else {
-        return bad(rt);
-    };
-    let size = s.size;
-    if size <= bytes.len() {
-        list(rt, word, &context, s.place, &bytes[0..size])?;
     }
-    Ok(())
+    let Some(given) = cases::settings::settings(*words, true, true, bytes) else {
+        return bad(rt);
+    };
+    match bytes.get(..given.size) {
+        Some(input) => list(rt, reader, &context, given.place, input),
+        None => Ok(()),
+    }
 }
 
 fn copied(rt: &impl Print, line: &[u8]) -> io::Result<()> {
@@ -94,54 +68,40 @@ fn copied(rt: &impl Print, line: &[u8]) -> io::Result<()> {
 }
 
 fn one_line(rt: &impl Print, line: &[u8], bytes: &mut [u8]) -> io::Result<()> {
-    let w = next_word(line, 0);
-    let from = w.from;
-    let to = w.to;
-    let name = &line[from..to];
-    if name.len() == 0 {
+    let mut words = Words::new(line);
+    let Some(name) = words.next() else {
         return Ok(());
-    }
-    if begins(name, b"#") {
+    };
+    if name.starts_with(b"#") {
         return copied(rt, line);
     }
-    case(rt, word::named(name), line, to, bytes)?;
+    match Word::named(name) {
+        Some(Word::ReadPart(reader)) => case(rt, reader, &mut words, bytes)?,
+        _ => bad(rt)?,
+    }
     text(rt, b"\n")
 }
 
-// A line that is too long for the slice is bad.
-fn answer(rt: &impl Print, line: &[u8], l: Line, bytes: &mut [u8]) -> io::Result<()> {
-    if is_long(l) {
-        text(rt, b"bad\n\n")
-    } else {
-        one_line(rt, bytes_of(line, l), bytes)
-    }
-}
-
-fn all(
+fn all<R: Read>(
     rt: &impl Print,
-    input: &mut impl Read,
-    chunk: &mut [u8],
+    lines: &mut LineReader<R>,
     line: &mut [u8],
     bytes: &mut [u8],
 ) -> io::Result<()> {
-    let mut rest = start();
-    let mut turns = u64::MAX;
-    while 0 < turns {
-        turns -= 1;
-        let l = next_line(input, chunk, rest, line);
-        if is_end(l) {
-            return Ok(());
+    for _ in 0..u64::MAX {
+        match lines.next_line(line) {
+            Some(Ok(line)) => one_line(rt, line, bytes)?,
+            Some(Err(TooLong)) => text(rt, b"bad\n\n")?,
+            None => return Ok(()),
         }
-        answer(rt, line, l, bytes)?;
-        rest = rest_of(l);
     }
     Ok(())
 }
 
 fn main(rt: HostRuntime) -> io::Result<()> {
-    let mut input = rt.stdin();
     let mut chunk = [0u8; 65536];
     let mut line = [0u8; 200000];
     let mut bytes = [0u8; 100000];
-    all(&rt, &mut input, &mut chunk, &mut line, &mut bytes)
+    let mut lines = LineReader::new(rt.stdin(), &mut chunk);
+    all(&rt, &mut lines, &mut line, &mut bytes)
 }

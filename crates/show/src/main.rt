@@ -1,52 +1,35 @@
 // Shows the OBU that stands on standard input: its bytes in hex, and a row for each field, or the refusal in words.
 #![tactic(auto)]
 
-ghost use Rattle.std.specs.Prelude.{◌<◌, ◌≤◌};
-
 use bits::answer::Refusal;
-use lines::answer::*;
+use lines::answer::{Text, hex};
 use lines::input::read_full;
+use lines::signed::Number;
 use listing::list::list;
 use listing::refusal::refusal;
 use listing::row::put_right;
 use std::io;
 use std::io::Read;
 
-fn smaller(a: usize, b: usize) -> usize
-    ensures { result ≤ b }
-{
-    if a < b { a } else { b }
-}
-
-// A row of the dump: bytes, behind the bit place of the first.
-fn put_bytes(rt: &impl Print, line: &mut [u8], place: u64, s: &[u8]) -> io::Result<()> {
-    put_right(line, 7, place);
-    let mut at = 8;
-    for i in 0..s.len() {
-        at = byte(line, at, b' ');
-        at = hex(line, at, &s[i..i + 1]);
+// A row of the dump: at most sixteen bytes, behind the bit place of the first.
+fn dump_row(rt: &impl Print, place: u64, row: &[u8]) -> io::Result<()> {
+    let mut line = [b' '; 60];
+    put_right(&mut line, 7, Number::from(place));
+    let mut out = Text::new(&mut line[8..]);
+    for b in row {
+        out.byte(b' ');
+        hex(&mut out, &[*b]);
     }
-    let end = byte(line, at, b'\n');
-    write(rt, line, end)
+    out.byte(b'\n');
+    let end = 8 + out.written().len();
+    rt.write_all(&line[..end])
 }
 
-// The row with the number i: sixteen bytes, or what is left.
-fn dump_row(rt: &impl Print, s: &[u8], i: usize) -> io::Result<()>
-    requires { i < 4096 }
-{
-    let from = i * 16;
-    let to = smaller(from + 16, s.len());
-    if from < to {
-        let mut line = [b' '; 60];
-        put_bytes(rt, &mut line, (from * 8) as u64, &s[from..to])?;
-    }
-    Ok(())
-}
-
-// At most 65,536 bytes.
 fn dump(rt: &impl Print, s: &[u8]) -> io::Result<()> {
-    for i in 0..4096 {
-        dump_row(rt, s, i)?;
+    let mut place = 0u64;
+    for row in s.chunks(16) {
+        dump_row(rt, place, row)?;
+        place = place.saturating_add(128);
     }
     rt.write_all(b"\n")
 }

@@ -1,6 +1,5 @@
 pub mod Digits
 pub mod Found
-pub mod Listed
 pub mod Longest
 pub mod Puts
 pub mod Sentences

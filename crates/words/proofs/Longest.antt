@@ -1,49 +1,32 @@
 -- No sentence is longer than 104 bytes.
-use mathlib.Core.Bool.{Bool, true, false, cond, ◌&&◌}
-use mathlib.Core.Logic.{⊎_elim}
-use mathlib.Core.List.{List, [], ◌∷◌, ◌++◌}
-use Prim.Native.Nat.{ℕ, zero, suc, ◌+◌, ◌/◌, ◌^◌, ◌≤◌, ◌<◌}
+use Rattle.std.proofs.Common.{◌≡◌, refl, Bool, true, false, cond, ◌&&◌, List, [], ◌∷◌, ◌++◌, ℕ, zero, suc, ◌+◌, ◌/◌, ◌^◌, ◌≤◌, ◌<◌, eqb, leb, length, length-append, arith}
+use Rattle.std.proofs.lemmas.Bool.Decides.{nat_tests}
 use Prim.Native.String.{String}
 use native.Mathlib.Nat.{pow-suc}
-use native.Mathlib.Omega.{arith}
-use lib.Dec.{T, eqb, ltb, leb, leb→le}
-use lib.ListN.{length, length-append}
-use borrow.Author.Tests.{ltb-true, ltb-false}
 use Rattle.words.specs.Names.{names, element, has_index}
 use Rattle.words.specs.Sentence.{place, counted, needed, bits_needed, plain, sentence}
 use Rattle.words.specs.Text.{codes, find, digits, decimal}
-use Rattle.words.proofs.Digits.{small, large}
-use Rattle.words.proofs.Found.{either, left, right}
-
-none : (n m : ℕ) → length (digits 0 n) ≤ m
-unfolding digits
-none n m = omega arith
 
 few : (j k n : ℕ) → n < 10 ^ suc j → length (digits k n) ≤ suc j
-few j zero n h = none n (suc j)
-few zero (suc k) n h = rw (small k n (omega arith)) (omega arith)
+unfolding digits
+few j zero n h = omega arith
+few zero (suc k) n h = grind (arith, nat_tests)
 few (suc j) (suc k) n h =
-    ⊎_elim
-    (λ e. rw (small k n (ltb-true n 10 e)) (omega arith))
-    (λ e. rw (large k n (ltb-false n 10 e), length-append) (omega (arith, few j k (n / 10) (omega (arith, pow-suc 10 (suc j))))))
-    (either (ltb n 10))
+    let l : n / 10 < 10 ^ suc j = omega (arith, pow-suc 10 (suc j)) in
+    grind (arith, nat_tests, length-append {A = ℕ}, few j k (n / 10) l)
 
 digits_of : (n : ℕ) → n < 2 ^ 32 → length (decimal n) ≤ 10
 digits_of n h = few 9 20 n (omega arith)
 
 -- every text of a table has at most m bytes
-fits : ℕ → List (ℕ × String) → Bool
+unfoldable fits : ℕ → List (ℕ × String) → Bool
 fits m [] = true
 fits m ((k, s) ∷ rows) = leb (length (codes s)) m && fits m rows
 
-find_fits : (m : ℕ) (rows : List (ℕ × String)) (n : ℕ) (other : List ℕ) → T (fits m rows) → length other ≤ m → length (find n rows other) ≤ m
+find_fits : (m : ℕ) (rows : List (ℕ × String)) (n : ℕ) (other : List ℕ) → fits m rows ≡ true → length other ≤ m → length (find n rows other) ≤ m
 unfolding find fits
 find_fits m [] n other t h = h
-find_fits m ((k, s) ∷ rows) n other t h =
-    ⊎_elim
-    (λ e. rw e (leb→le (length (codes s)) m (left (leb (length (codes s)) m) (fits m rows) t)))
-    (λ e. rw e (find_fits m rows n other (right (leb (length (codes s)) m) (fits m rows) t) h))
-    (either (eqb n k))
+find_fits m ((k, s) ∷ rows) n other t h = grind (arith, nat_tests, find_fits m rows n other)
 
 either_fits : (m : ℕ) (t : Bool) (a b : List ℕ) → length a ≤ m → length b ≤ m → length (cond t a b) ≤ m
 either_fits m true a b h k = h
@@ -51,7 +34,7 @@ either_fits m false a b h k = k
 
 element_fits : (e : ℕ) → e < 2 ^ 32 → length (element e) ≤ 41
 unfolding element names fits
-element_fits e h = find_fits 41 names e (codes "element " ++ decimal e) tt (omega (arith, digits_of e h))
+element_fits e h = find_fits 41 names e (codes "element " ++ decimal e) refl (omega (arith, digits_of e h))
 
 place_fits : (n e i : ℕ) → e < 2 ^ 32 → i < 2 ^ 32 → length (place n e i) ≤ 53
 unfolding place
@@ -94,4 +77,4 @@ longest n first second third h k l m =
     (either_fits 104 (eqb n 3) (codes "the buffer is too short: " ++ needed first)
     (find n plain (codes "this version has no answer " ++ decimal n))
     (omega (arith, needed_fits first k))
-    (find_fits 104 plain n (codes "this version has no answer " ++ decimal n) tt (omega (arith, digits_of n h)))))
+    (find_fits 104 plain n (codes "this version has no answer " ++ decimal n) refl (omega (arith, digits_of n h)))))

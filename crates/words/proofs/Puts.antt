@@ -1,71 +1,31 @@
--- Bytes that are put into a slice, one after the other.
-use mathlib.Core.Path.{◌≡◌, sym, ◌∙◌, ap}
-use mathlib.Core.List.{List, [], ◌∷◌, ◌++◌, append_assoc}
-use Prim.Native.Nat.{ℕ, suc, ◌+◌, ◌≤◌, ◌<◌}
-use native.Mathlib.Numerals.{add-one}
-use native.Mathlib.Omega.{arith}
-use lib.ListN.{length, take, drop, get_or, set, length-append}
-use lib.Seq.{paste, paste-zero, paste-suc, length-take-le, take-length, take_at, drop_at, drop-drop}
+-- Bytes that are put behind a text, one after the other.
+use Rattle.std.proofs.Common.{◌≡◌, ◌∙◌, ap, ℕ, ◌+◌, ◌≤◌, List, ◌++◌, length, take, drop, append_assoc, arith, length-append}
+use Rattle.std.proofs.Math.Seq.{paste, take-paste, drop-paste, drop-drop, take-length}
+use Rattle.words.specs.declared.put.Text.{Text}
+use Rattle.words.specs.Puts.{Puts}
 use Rattle.words.specs.Text.{Put}
 
--- one byte
-pub put_one : (out : List ℕ) (at b : ℕ) → at < length out → set out at b ≡ paste out at (b ∷ []) 1
-put_one out at b h =
-    let e : set (paste out at (b ∷ []) 0) (at + 0) b ≡ paste out at (b ∷ []) 1 = paste-suc out at (b ∷ []) 0 0 (omega arith) (omega arith) in
-    let z : at + 0 ≡ at = omega arith in
-    rw z at (rw (sym (paste-zero out at (b ∷ []))) at e)
+paste_then : (d : List ℕ) (at : ℕ) (s t : List ℕ) → at + length (s ++ t) ≤ length d
+    → paste (paste d at s (length s)) (at + length s) t (length t) ≡ paste d at (s ++ t) (length (s ++ t))
+paste_then d at s t h =
+    let l : length (s ++ t) ≡ length s + length t = length-append s t in
+    let front = take-paste d at s (length s) (omega arith) (omega arith) in
+    let back : drop (at + length s + length t) (paste d at s (length s)) ≡ drop (at + length (s ++ t)) d =
+    rw (← drop-drop (length t) (at + length s) (paste d at s (length s)), drop-paste d at s (length s) (omega arith) (omega arith), drop-drop (length t) (at + length s) d, l) (ap (λ k. drop k d) (omega arith)) in
+    rw (front, back, take-length s, take-length t, take-length (s ++ t)) (simp append_assoc)
 
--- the next byte of a text, where i were put
-pub put_next : (out : List ℕ) (at : ℕ) (s : List ℕ) (i end r : ℕ) (now after : List ℕ) → i < length s
-    → (at + length s ≤ length out → (end ≡ at + i) × (now ≡ paste out at s i)) → length now ≡ length out → Put now end (get_or s i 0 ∷ []) r after
-    → at + length s ≤ length out → (r ≡ at + (i + 1)) × (after ≡ paste out at s (i + 1))
-put_next out at s i end r now after h inv len put room =
-    let p : (r ≡ end + 1) × (after ≡ paste now end (get_or s i 0 ∷ []) 1) = put (omega (arith, (inv room).0)) in
-    let q : set now end (get_or s i 0) ≡ paste now end (get_or s i 0 ∷ []) 1 = put_one now end (get_or s i 0) (omega (arith, (inv room).0)) in
-    let n : set (paste out at s i) (at + i) (get_or s i 0) ≡ paste out at s (suc i) = paste-suc out at s i 0 (omega arith) h in (
-      omega (arith, p.0, (inv room).0),
-      p.1 ∙ sym q ∙ ap (λ (k : ℕ). set now k (get_or s i 0)) (inv room).0 ∙ ap (λ (l : List ℕ). set l (at + i) (get_or s i 0)) (inv room).1 ∙ n
-          ∙ ap (λ (k : ℕ). paste out at s k) (sym (add-one i)),
-    )
+put_then : (out mid after : List ℕ) (at q r : ℕ) (s t : List ℕ) → Put out at s q mid → Put mid q t r after → length mid ≡ length out → Put out at (s ++ t) r after
+put_then out mid after at q r s t p o l h =
+    let e : length (s ++ t) ≡ length s + length t = length-append s t in
+    let a = p (omega arith) in
+    let b = o (omega arith) in
+    (omega arith, b.1 ∙ rw (a.0, a.1) (paste_then out at s t h))
 
--- the whole text
-pub put_all : (out : List ℕ) (at : ℕ) (s : List ℕ) (i end : ℕ) (now : List ℕ) → i ≡ length s
-    → (at + length s ≤ length out → (end ≡ at + i) × (now ≡ paste out at s i)) → Put out at s end now
-put_all out at s i end now e inv room =
-    ((inv room).0 ∙ ap (λ (k : ℕ). at + k) e, (inv room).1 ∙ ap (λ (k : ℕ). paste out at s k) e)
+pub puts_then : {a b c : Text} {s t : List ℕ} → Puts a s b → Puts b t c → Puts a (s ++ t) c
+puts_then p q = record { same_slice = q.same_slice ∙ p.same_slice; same_length = grind arith; put = put_then _ _ _ _ _ _ _ _ p.put q.put p.same_length }
 
--- a text behind a text
-module _ (d : List ℕ) (at : ℕ) (s t : List ℕ) (h : at + length (s ++ t) ≤ length d) where
-  front : length (take at d ++ s) ≡ at + length s
-  front = rw (length-append, length-take-le at d (omega (arith, length-append s t)))
-
-  split : paste d at s (length s) ≡ (take at d ++ s) ++ drop (at + length s) d
-  split = simp (take-length, append_assoc)
-
-  joined : paste (paste d at s (length s)) (at + length s) t (length t) ≡ paste d at (s ++ t) (length (s ++ t))
-  joined =
-      let k : at + length (s ++ t) ≡ at + length s + length t = omega (arith, length-append s t) in
-      rw (
-        split,
-        take_at (take at d ++ s) (drop (at + length s) d) (at + length s) front,
-        take-length t,
-        ← drop-drop (length t) (at + length s) ((take at d ++ s) ++ drop (at + length s) d),
-        drop_at (take at d ++ s) (drop (at + length s) d) (at + length s) front,
-        drop-drop (length t) (at + length s) d,
-        take-length (s ++ t),
-        k,
-      )
-      (simp append_assoc)
-
-pub put-none : (out : List ℕ) (at : ℕ) → Put out at [] at out
-put-none out at room = (omega arith, paste-zero out at [])
-
-pub put_then : (out mid after : List ℕ) (at q r : ℕ) (s t : List ℕ) → Put out at s q mid → length mid ≡ length out → Put mid q t r after
-    → Put out at (s ++ t) r after
-put_then out mid after at q r s t f len g room =
-    let a : (q ≡ at + length s) × (mid ≡ paste out at s (length s)) = f (omega (arith, length-append s t)) in
-    let b : (r ≡ q + length t) × (after ≡ paste mid q t (length t)) = g (omega (arith, length-append s t, a.0)) in (
-      omega (arith, length-append s t, a.0, b.0),
-      b.1 ∙ ap (λ (l : List ℕ). paste l q t (length t)) a.1
-          ∙ ap (λ (k : ℕ). paste (paste out at s (length s)) k t (length t)) a.0 ∙ joined out at s t room,
-    )
+-- what was put at the start of a slice
+pub written : {a b : Text} {s : List ℕ} → Puts a s b → a.at ≡ 0 → length s ≤ length a.out.now → take b.at b.out.now ≡ s
+written {a} {b} {s} p z h =
+    let q = p.put (omega arith) in
+    rw (q.0, q.1, take-paste a.out.now a.at s (length s) (omega arith) (omega arith), z, take-length s)

@@ -1,4 +1,5 @@
 pub mod Listed
 pub mod Names
+pub mod Puts
 pub mod Sentence
 pub mod Text

@@ -1,5 +1,6 @@
 -- The elements that a refusal names: the standard's name of each, and where an index stands beside it.
-use Rattle.std.specs.Prelude.{Bool, false, ◌&&◌, ◌||◌, List, [], ◌∷◌, ◌++◌, ℕ, eqb}
+use Rattle.std.specs.Prelude.{Bool, ◌&&◌, ◌||◌, List, [], ◌∷◌, ◌++◌, ℕ, eqb}
+use Rattle.std.specs.List.{list_any}
 use Prim.Native.String.{String}
 use Rattle.bits.specs.Elements.{operating_point_idc, seq_level_idx, decoder_model_present_for_this_op, initial_display_delay_present_for_this_op, seq_tier, decoder_buffer_delay, encoder_buffer_delay, initial_display_delay_minus_1, feature_enabled, feature_data, loop_filter_level, loop_filter_ref_deltas, loop_filter_mode_deltas, cdef_y_pri_strength, cdef_y_sec_strength, cdef_uv_pri_strength, cdef_uv_sec_strength, frame_restoration_type}
 use Rattle.words.specs.Text.{codes, find, decimal}
@@ -104,9 +105,8 @@ compared =
     feature_enabled ∷ feature_data ∷ loop_filter_level ∷ loop_filter_ref_deltas ∷ loop_filter_mode_deltas ∷ frame_restoration_type ∷
     []
 
-unfoldable pub among : List ℕ → ℕ → Bool
-among [] e = false
-among (k ∷ ks) e = eqb e k || among ks e
+abbrev pub among : List ℕ → ℕ → Bool
+among ks e = list_any (λ k. eqb e k) ks
 
 unfoldable pub has_index : ℕ → ℕ → Bool
 has_index number e = among single e || (eqb number 2 && among compared e)

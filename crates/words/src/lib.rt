@@ -3,48 +3,37 @@
 
 mod names; // names.rt: the elements that a refusal names
 pub mod put; // put.rt: text into a lent slice
-mod sentence; // sentence.rt: the sentence of an answer
+pub mod sentence; // sentence.rt: the sentence of an answer
 
-ghost use Rattle.std.specs.Prelude.{◌≡◌, min, length};
-ghost use Rattle.words.specs.Sentence.{explained};
-ghost use Rattle.words.specs.Sentence.{cut as Sentence·cut, sentence as Sentence·sentence};
+ghost use Rattle.std.specs.Prelude.{◌≡◌, length};
+ghost use Rattle.words.specs.Sentence as form;
 
+use put::Text;
 use sentence::sentence;
 
-fn smaller(a: usize, b: usize) -> usize
-    ensures { result ≡ min a b }
-{
-    if a < b { a } else { b }
-}
-
 // Puts as much of s as leaves room for a 0 byte at the start of text, and that byte behind it.
+#[tactic(auto, unfolding(crate::specs::Sentence::cut))]
 fn cut(s: &[u8], text: &mut [u8])
-    ensures { text.new ≡ Sentence·cut s.now text.old }
+    ensures { text.new ≡ form.cut s.now text.old }
 {
-    if text.len() == 0 {
+    if text.is_empty() {
         return;
     }
-    let n = smaller(s.len(), text.len() - 1);
-    bits::slice::copy(&s[..n], text);
+    let n = s.len().min(text.len() - 1);
+    text[..n].copy_from_slice(&s[..n]);
     text[n] = 0;
 }
 
-// No sentence has more than 104 bytes (proofs/Longest.antt).
-fn tell(number: u32, first: u32, second: u32, third: u32, text: &mut [u8]) -> u32
-    ensures value { result ≡ length (Sentence·sentence number first second third) }
-    ensures text_after { text.new ≡ Sentence·cut (Sentence·sentence number first second third) text.old }
+// One sentence on an answer, a number and its values, for C: cut where text is too short for it and a 0 byte. Answers the whole
+// sentence's length. No sentence has more than 104 bytes (proofs/Longest.antt).
+pub fn explain(answer: &[u32; 4], text: &mut [u8]) -> u32
+    ensures value { result ≡ length (form.explained answer.now) }
+    ensures text_after { text.new ≡ form.cut (form.explained answer.now) text.old }
 {
     let mut whole = [0u8; 104];
-    let n = sentence(&mut whole, number, first, second, third);
-    cut(&whole[..n], text);
-    n as u32
-}
-
-// One sentence on an answer, a number and its values, for C: cut where text is too short for it and a 0 byte. Answers the whole
-// sentence's length.
-pub fn explain(answer: &[u32; 4], text: &mut [u8]) -> u32
-    ensures value { result ≡ length (explained answer.now) }
-    ensures text_after { text.new ≡ Sentence·cut (explained answer.now) text.old }
-{
-    tell(answer[0], answer[1], answer[2], answer[3], text)
+    let mut out = Text::new(&mut whole);
+    sentence(&mut out, answer);
+    let whole = out.written();
+    cut(whole, text);
+    whole.len() as u32
 }

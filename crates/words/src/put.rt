@@ -1,35 +1,61 @@
-// Text, put together in a lent slice. Each function puts its bytes in from a place on, and answers the place behind them.
-// What the slice has no room for is dropped.
-ghost use Rattle.std.specs.Prelude.{[], ◌∷◌};
-ghost use Rattle.words.specs.Text.{Put};
-ghost use Rattle.words.specs.Text.{decimal as Text·decimal};
+// Text, put together in a lent slice.
+ghost use Rattle.std.specs.Prelude.{◌≤◌, length};
 
-pub fn byte(out: &mut [u8], at: usize, b: u8) -> usize
-    ensures { Put out.old at (b ∷ []) result out.new }
-{
-    if at < out.len() {
-        out[at] = b;
-        return at + 1;
-    }
-    at
+// The slice, and the place in it where the text so far ends.
+#[derive(Drop)]
+pub struct Text<'a> {
+    out: &'a mut [u8],
+    at: usize,
+    ghost in_slice: { at ≤ length out.now },
 }
 
-pub fn text(out: &mut [u8], at: usize, s: &[u8]) -> usize
-    ensures { Put out.old at s.now result out.new }
-{
-    let mut end = at;
-    for i in 0..s.len() {
-        end = byte(out, end, s[i]);
-    }
-    end
-}
+// Each method puts its bytes behind the text so far, and drops what the slice has no room for.
+impl<'a> Text<'a> {
+    ghost use Rattle.std.specs.Prelude.{◌≡◌, [], ◌∷◌, take};
+    ghost use Rattle.words.specs.Text as text;
+    ghost use Rattle.words.specs.Puts.{Puts};
 
-pub fn decimal(out: &mut [u8], at: usize, n: u64) -> usize
-    ensures { Put out.old at (Text·decimal n) result out.new }
-{
-    if n < 10 {
-        return byte(out, at, b'0' + n as u8);
+    // Nothing has been put.
+    pub fn new(out: &'a mut [u8]) -> Text<'a>
+        ensures same_slice { result.out.ghost_name ≡ out.entry.ghost_name }
+        ensures slice { result.out.now ≡ out.old }
+        ensures start { result.at ≡ 0 }
+    {
+        Text { out, at: 0 }
     }
-    let end = decimal(out, at, n / 10);
-    byte(out, end, b'0' + (n % 10) as u8)
+
+    // What was put.
+    pub fn written(&self) -> &[u8]
+        ensures { result.now ≡ take self.now.at self.now.out.now }
+    {
+        &self.out[..self.at]
+    }
+
+    pub fn byte(&mut self, b: u8)
+        ensures { Puts self.old (b ∷ []) self.new }
+    {
+        if self.at < self.out.len() {
+            self.out[self.at] = b;
+            self.at += 1;
+        }
+    }
+
+    pub fn text(&mut self, s: &[u8])
+        ensures { Puts self.old s.now self.new }
+    {
+        for b in s {
+            self.byte(*b);
+        }
+    }
+
+    pub fn decimal(&mut self, n: u64)
+        ensures { Puts self.old (text.decimal n) self.new }
+    {
+        if n < 10 {
+            self.byte(b'0' + n as u8);
+        } else {
+            self.decimal(n / 10);
+            self.byte(b'0' + (n % 10) as u8);
+        }
+    }
 }

@@ -1,73 +1,81 @@
-// The sentence of an answer, at the start of a slice.
-ghost use Rattle.words.specs.Sentence.{place as Sentence·place, counted as Sentence·counted, needed as Sentence·needed, bits_needed as Sentence·bits-needed, sentence as Sentence·sentence};
-ghost use Rattle.words.specs.Text.{Put};
+// The sentence of an answer.
+ghost use Rattle.words.specs.Puts.{Puts};
+ghost use Rattle.words.specs.Sentence as form;
 
 use crate::names::{element, has_index};
-use crate::put::{byte, decimal, text};
+use crate::put::Text;
 
-fn place(out: &mut [u8], number: u32, e: u32, index: u32) -> usize
-    ensures { Put out.old 0 (Sentence·place number e index) result out.new }
+#[tactic(auto, using(crate::proofs::Puts::puts_then), unfolding(crate::specs::Sentence::place))]
+fn place(out: &mut Text, number: u32, e: u32, index: u32)
+    ensures { Puts out.old (form.place number e index) out.new }
 {
-    let at = element(out, 0, e);
+    element(out, e);
     if has_index(number, e) {
-        let at = byte(out, at, b'[');
-        let at = decimal(out, at, index as u64);
-        return byte(out, at, b']');
+        out.byte(b'[');
+        out.decimal(index as u64);
+        out.byte(b']');
     }
-    at
 }
 
-fn counted(out: &mut [u8], at: usize, n: u32, one: &[u8], many: &[u8]) -> usize
-    ensures { Put out.old at (Sentence·counted n one.now many.now) result out.new }
+#[tactic(auto, using(crate::proofs::Puts::puts_then), unfolding(crate::specs::Sentence::counted))]
+fn counted(out: &mut Text, n: u32, one: &[u8], many: &[u8])
+    ensures { Puts out.old (form.counted n one.now many.now) out.new }
 {
     if n == 1 {
-        return text(out, at, one);
+        out.text(one);
+    } else {
+        out.decimal(n as u64);
+        out.text(many);
     }
-    let at = decimal(out, at, n as u64);
-    text(out, at, many)
 }
 
-fn needed(out: &mut [u8], at: usize, n: u32) -> usize
-    ensures { Put out.old at (Sentence·needed n) result out.new }
+#[tactic(auto, unfolding(crate::specs::Sentence::needed))]
+fn needed(out: &mut Text, n: u32)
+    ensures { Puts out.old (form.needed n) out.new }
 {
-    counted(out, at, n, b"1 byte is needed", b" bytes are needed")
+    counted(out, n, b"1 byte is needed", b" bytes are needed");
 }
 
-fn bits_needed(out: &mut [u8], at: usize, width: u32) -> usize
-    ensures { Put out.old at (Sentence·bits-needed width) result out.new }
+#[tactic(auto, unfolding(crate::specs::Sentence::bits_needed))]
+fn bits_needed(out: &mut Text, width: u32)
+    ensures { Puts out.old (form.bits_needed width) out.new }
 {
     if width == 0 {
-        return text(out, at, b"no width helps");
+        out.text(b"no width helps");
+    } else {
+        counted(out, width, b"1 bit is needed", b" bits are needed");
     }
-    counted(out, at, width, b"1 bit is needed", b" bits are needed")
 }
 
-pub fn sentence(out: &mut [u8], number: u32, first: u32, second: u32, third: u32) -> usize
-    ensures { Put out.old 0 (Sentence·sentence number first second third) result out.new }
+// The sentence of an answer, a number and its values.
+#[tactic(auto, using(crate::proofs::Puts::puts_then), unfolding(crate::specs::Sentence::sentence, crate::specs::Sentence::plain, crate::specs::Text::find))]
+pub fn sentence(out: &mut Text, answer: &[u32; 4])
+    ensures { Puts out.old (form.explained answer.now) out.new }
 {
+    let [number, first, second, third] = *answer;
     match number {
-        0 => text(out, 0, b"done"),
+        0 => out.text(b"done"),
         1 => {
-            let at = place(out, 1, first, second);
-            text(out, at, b" is inconsistent")
+            place(out, 1, first, second);
+            out.text(b" is inconsistent");
         }
         2 => {
-            let at = place(out, 2, first, second);
-            let at = text(out, at, b" does not fit its field: ");
-            bits_needed(out, at, third)
+            place(out, 2, first, second);
+            out.text(b" does not fit its field: ");
+            bits_needed(out, third);
         }
         3 => {
-            let at = text(out, 0, b"the buffer is too short: ");
-            needed(out, at, first)
+            out.text(b"the buffer is too short: ");
+            needed(out, first);
         }
-        4 => text(out, 0, b"the input ends inside header, size or body"),
-        5 => text(out, 0, b"a forbidden or reserved bit is set"),
-        6 => text(out, 0, b"the size field is wrong"),
-        7 => text(out, 0, b"the trailing bits are wrong"),
-        8 => text(out, 0, b"the slice is longer than 65536 bytes"),
+        4 => out.text(b"the input ends inside header, size or body"),
+        5 => out.text(b"a forbidden or reserved bit is set"),
+        6 => out.text(b"the size field is wrong"),
+        7 => out.text(b"the trailing bits are wrong"),
+        8 => out.text(b"the slice is longer than 65536 bytes"),
         _ => {
-            let at = text(out, 0, b"this version has no answer ");
-            decimal(out, at, number as u64)
+            out.text(b"this version has no answer ");
+            out.decimal(number as u64);
         }
     }
 }

@@ -1,0 +1,4 @@
+use Rattle.words.proofs.put.Text.+decimal.Given as goal
+
+abbrev pub decreases-decimal : goal.decreases-decimal
+decreases-decimal l = l.n
