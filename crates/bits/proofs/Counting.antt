@@ -15,7 +15,7 @@ use Rattle.bits.specs.declared.answer.Refusal.{Refusal}
 use Rattle.bits.specs.declared.answer.Refusal.TheVariants.{Short}
 use Rattle.bits.proofs.Numbers.{length-to_bits}
 use Rattle.bits.proofs.Laws.{refused-done, join_inv}
-use Rattle.bits.proofs.Walking.{bounded}
+use Rattle.bits.proofs.Lengths.{bounded}
 
 field-count : (t : Bool) (n v : ℕ) (r : Refusal) → (cond t (wrote (to_bits n v)) (refuses r)).end ≡ done → length (cond t (wrote (to_bits n v)) (refuses r)).bits ≡ n
 field-count true n v r e = length-to_bits n v

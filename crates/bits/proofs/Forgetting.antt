@@ -4,11 +4,10 @@ use mathlib.Core.List.{[]}
 use mathlib.Core.Bool.{cond}
 use Prim.Native.Nat.{◌^◌}
 use lib.Dec.{ltb}
+use Rattle.std.specs.Prelude.{Ok, Err}
 use Rattle.bits.specs.Bits.{Bits, to_bits}
 use Rattle.bits.specs.Walk.{Walk, none, field, mark, demand, refuse, either, ◌⊕◌, End, done, refused, Out, wrote, refuses, after, join, run}
-use Rattle.bits.specs.Written.{Written}
-use Rattle.bits.specs.declared.answer.Answer.{Answer}
-use Rattle.bits.specs.declared.answer.Answer.TheVariants.{Done, Refused}
+use Rattle.bits.specs.Written.{Answer, Written}
 use Rattle.bits.specs.declared.answer.Refusal.{Refusal}
 use Rattle.bits.specs.declared.answer.Refusal.TheVariants.{Inconsistent, Unfit, Short, Ends, Reserved, Size, Trailing, Long}
 use Rattle.bits.proofs.Laws.{cond-ap}
@@ -28,8 +27,8 @@ forget_end done = done
 forget_end (refused r) = refused (forget r)
 
 abbrev pub forget_answer : Answer → Answer
-forget_answer (Done n) = Done n
-forget_answer (Refused r) = Refused (forget r)
+forget_answer (Ok n) = Ok n
+forget_answer (Err r) = Err (forget r)
 
 abbrev pub forget_written : Written → Written
 forget_written v = record { answer = forget_answer v.answer; bytes = v.bytes }

@@ -8,12 +8,11 @@ pub mod CodeLaws
 pub mod Pieces
 pub mod Places
 pub mod Words
-pub mod Walking
-pub mod Loops
 pub mod Signs
 pub mod Reading
 pub mod Bounds
-pub mod RoundTrip
+pub mod Lengths
 pub mod Forgetting
+pub mod Passing
 pub mod Checks
 pub mod Counting

@@ -4,9 +4,9 @@ use mathlib.Core.List.{[], ◌∷◌}
 use mathlib.Core.Bool.{Bool, true, false}
 use Prim.Native.Nat.{ℕ, zero, suc, ◌+◌, ◌-◌, ◌*◌, ◌^◌, ◌/◌, ◌%◌, ◌<◌, ◌≤◌}
 use native.Mathlib.Omega.{arith}
-use native.Mathlib.Nat.{mod-lt, mod-eq_of_lt, mod-one, one-mul}
+use native.Mathlib.Nat.{mod-lt, mod-eq_of_lt, mod-one}
 use lib.ListN.{length}
-use lib.Pow.{mod-pow-add, field, mod-mod-pow, high, low, pow_pos, pow-lt}
+use lib.Pow.{mod-pow-add, field, mod-mod-pow, high, low, pow_pos}
 use lib.Dec.{eqb, lit<}
 use Rattle.bits.specs.Bits.{Bits, bit, bit_at, to_bits, from_bits}
 
@@ -65,10 +65,6 @@ to-from (b ∷ bs) =
     let h : bit_at n v ≡ b = ap (λ (x : ℕ). eqb (x % 2) 1) (high (bit b) n (from_lt bs)) ∙ bit-back b in
     let t : to_bits n v ≡ bs = sym (to_bits_mod n n v (omega arith)) ∙ ap (to_bits n) (low (bit b) n (from_lt bs)) ∙ to-from bs in
     cc
-
--- the code's power of two
-pub power_is : (n : ℕ) → n ≤ 32 → 1 * 2 ^ n % 2 ^ 64 ≡ 2 ^ n
-power_is n h = rw one-mul (mod-eq_of_lt (pow-lt {j = 64} (omega arith)))
 
 -- the powers and the parts of a byte by the names that the code has for them
 pub power_some : (n p : ℕ) → p ≡ 2 ^ n → 0 < p

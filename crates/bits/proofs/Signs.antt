@@ -1,7 +1,7 @@
 -- Signed numbers, once over the width. A signed number is a ℤ: `pos a` is a, and `negsuc m` is -(m + 1); `mag z` is a or m.
 use mathlib.Core.Path.{◌≡◌, refl, ap, ◌∙◌}
 use mathlib.Core.Bool.{true, false}
-use Prim.Native.Nat.{ℕ, zero, suc, ◌-◌, ◌^◌, ◌<◌}
+use Prim.Native.Nat.{ℕ, zero, suc, ◌^◌, ◌<◌}
 use native.Mathlib.Nat.{zero-add}
 use native.Mathlib.Omega.{arith}
 use lib.IntN.{ℤ, pos, negsuc, nat_abs, ◌-ℤ◌}
@@ -11,7 +11,6 @@ use mir.Syntax.{Width, w32}
 use mir.Val.{Fits, SFits, to_z, of_z, hbits}
 use mir.Facts.{to_z-of_z, to_z_pos, sfits_widen}
 use borrow.Author.Tests.{le-ltb, ltb-true}
-use Rattle.bits.specs.Codec.{f}
 
 -- what the code computes of a number's sign
 flipped : (z : ℤ) → lt_z z (pos 0) ≡ true → negsuc 0 -ℤ z ≡ pos (mag z)

@@ -1,6 +1,6 @@
 -- A syntax table, both ways: how a value is written, how it is read, which of it is coded, and all its spellings; and the forms that the
 -- standard's tables are made of.
-use Rattle.std.specs.Prelude.{◌≡◌, List, [], ◌∷◌, ◌++◌, Bool, true, false, cond, not, ℕ, zero, suc, ◌+◌, eqb, ltb}
+use Rattle.std.specs.Prelude.{◌≡◌, List, [], ◌∷◌, ◌++◌, Bool, true, false, cond, not, ℕ, zero, suc, eqb, ltb}
 use Rattle.bits.specs.Bits.{Bits, from_bits}
 use Rattle.bits.specs.Widths.{bit_length}
 use Rattle.bits.specs.Walk.{Walk, none, field, unsigned, mark, demand, either, ◌⊕◌, wrote, run}
@@ -143,10 +143,10 @@ merged {A} to from c = record {
 
 -- the type with one value
 abbrev pub Nil : Type 0
-Nil = record {}
+Nil = Unit {0}
 
 abbrev pub nil : Nil
-nil = record {}
+nil = tt
 
 -- n reserved bits, all 0
 abbrev pub read_zeros : ℕ → Bits → Got Nil

@@ -1,13 +1,10 @@
 -- A walk: the fields and checks that a record is written by, in their order, as the standard's syntax tables say them; what a walk comes to, where
--- the first refusal wins (document 01, "Writing"); and the contract of every function that writes.
-use Rattle.std.specs.Prelude.{◌≡◌, List, [], ◌∷◌, ◌++◌, Bool, cond, ℕ, ◌+◌, ◌^◌, min, max, length, ltb}
-use Rattle.bits.specs.Bits.{Bits, to_bits, put, limit}
+-- the first refusal wins (document 01, "Writing").
+use Rattle.std.specs.Prelude.{[], ◌∷◌, ◌++◌, Bool, cond, ℕ, ◌+◌, ◌^◌, max, ltb}
+use Rattle.bits.specs.Bits.{Bits, to_bits}
 use Rattle.bits.specs.Widths.{bit_length}
-use Rattle.bits.specs.declared.answer.Cursor.{Cursor}
 use Rattle.bits.specs.declared.answer.Refusal.{Refusal}
 use Rattle.bits.specs.declared.answer.Refusal.TheVariants.{Unfit}
-use Rattle.bits.specs.declared.answer.Step.{Step}
-use Rattle.bits.specs.declared.answer.Step.TheVariants.{Next, Refused}
 
 infixr 60 ◌⊕◌
 pub data Walk : Type 0 where
@@ -61,22 +58,6 @@ run (demand t r) = cond t (wrote []) (refuses r)
 run (refuse r) = refuses r
 run (either t a b) = cond t (run a) (run b)
 run (a ⊕ b) = join (run a) (run b)
-
--- the place n bits further on, which goes no further than the limit
-abbrev pub forward : ℕ → ℕ → ℕ
-forward at n = max at (min (at + n) limit)
-
-abbrev pub ends : End → ℕ → Step
-ends done at = Next (record { at = at })
-ends (refused r) at = Refused r
-
-unfoldable pub step_of : Out → Cursor → Step
-step_of o c = ends o.end (forward c.at (length o.bits))
-
--- The contract of every walk function: from the cursor c over the bytes xs the walk w comes to the answer s, and leaves the bytes ys.
--- (One constructor over its two equations, and no record, so that a proof search takes it whole.)
-pub data Walked (w : Walk) (c : Cursor) (xs : List ℕ) (s : Step) (ys : List ℕ) : Type 0 where
-  walked : s ≡ step_of (run w) c → ys ≡ put xs c.at (run w).bits → Walked w c xs s ys
 
 -- the most bits that a walk can write, whatever its flags
 unfoldable pub bound : Walk → ℕ

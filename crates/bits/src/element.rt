@@ -1,4 +1,4 @@
-// The elements that a refusal can name, as document 01 numbers them.
+// The elements that a refusal can name, as document 01 numbers them. (They are numbers, and no enum: C is handed them, and the tables name them so.)
 pub const OBU_TYPE: u8 = 1;
 
 pub const TEMPORAL_ID: u8 = 2;

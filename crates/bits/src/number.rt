@@ -16,8 +16,9 @@ pub fn pow2(n: u32) -> u64
 }
 
 // The least width that holds n: all but the leading zeros.
+#[tactic(auto, using(crate::proofs::Widths::bit_length_lem))]
 pub fn bit_length(n: u32) -> u8
     ensures { result ≡ bit_length n }
 {
-    (32 - u32::leading_zeros(n)) as u8
+    (u32::BITS - n.leading_zeros()) as u8
 }

@@ -9,18 +9,19 @@ use lib.ListN.{get_or}
 use lib.Dec.{eqb, ltb, lit<}
 use borrow.Author.Tests.{lt-ltb, le-ltb, eq-eqb, ne_eqb, ltb-true, eqb-true}
 use Rattle.bits.specs.Bits.{to_bits}
-use Rattle.bits.specs.Walk.{Walk, none, field, unsigned, either, ◌⊕◌, Out, wrote, join, run, Walked}
+use Rattle.bits.specs.Walk.{Walk, none, field, unsigned, either, ◌⊕◌, Out, wrote, join, run}
 use Rattle.bits.specs.Codec.{Codec, f, absent, choose, checked, via, array, uncons, ◌▷◌}
 use Rattle.bits.specs.Elements.{cdef_y_pri_strength, cdef_y_sec_strength, cdef_uv_pri_strength, cdef_uv_sec_strength, cdef_damping}
-use Rattle.bits.specs.declared.answer.Cursor.{Cursor}
 use Rattle.bits.specs.declared.answer.Refusal.{Refusal}
 use Rattle.bits.specs.declared.answer.Refusal.TheVariants.{Inconsistent, Unfit}
-use Rattle.bits.specs.declared.answer.Step.{Step}
-use Rattle.bits.specs.declared.answer.Step.TheVariants.{Refused}
-use Rattle.bits.proofs.Walking.{as_run, after_none, field-refused, halt_here, held_then, broken}
+use Rattle.writer.specs.Walked.{Walked}
+use Rattle.writer.specs.declared.BitWriter.{BitWriter}
+use Rattle.writer.proofs.Walking.{Answer as Step}
+use Rattle.std.specs.Prelude.{Err}
+use Rattle.writer.proofs.Walking.{as_run, after_none, field-refused, halt_here, held_then, broken}
 use Rattle.bits.proofs.Leaves.{field-run}
 use Rattle.bits.proofs.Storing.{below_or}
-use Rattle.bits.proofs.Loops.{array_first}
+use Rattle.writer.proofs.Loops.{array_first}
 use Rattle.cdef.specs.Cdef as table
 use Rattle.cdef.specs.Packed.{packed}
 use Rattle.cdef.specs.Cdef.{damping, swapped, secondary, strength, strengths, Strengths, each_strength, no_strength, no_place, no_strengths, strengths_out}
@@ -28,31 +29,31 @@ use Rattle.cdef.specs.declared.record.CdefParams.{CdefParams}
 use Rattle.parts.proofs.Pairs.{zip-at}
 use Rattle.parts.proofs.Packing.{both_run, by_field}
 
-module _ (v : ℕ) {c : Cursor} {xs : List ℕ} where
-  pub damping_low : v < 3 → Walked (damping.enc v) c xs (Refused (Unfit cdef_damping 0 0)) xs
+module _ (v : ℕ) {c : BitWriter} where
+  pub damping_low : v < 3 → Walked (damping.enc v) c c (Err (Unfit cdef_damping 0 0))
   unfolding damping
-  damping_low h = rw (lt-ltb v 3 h) (field-refused 2 4 _ c xs false refl refl)
+  damping_low h = rw (lt-ltb v 3 h) (field-refused 2 4 _ false refl refl)
 
-  pub damping_high : 3 ≤ v → 6 < v → Walked (damping.enc v) c xs (Refused (Unfit cdef_damping 0 0)) xs
+  pub damping_high : 3 ≤ v → 6 < v → Walked (damping.enc v) c c (Err (Unfit cdef_damping 0 0))
   unfolding damping
-  damping_high h k = rw (le-ltb v 3 h) (field-refused 2 (v - 3) _ c xs false (sym (le-ltb (v - 3) 4 (omega arith))) refl)
+  damping_high h k = rw (le-ltb v 3 h) (field-refused 2 (v - 3) _ false (sym (le-ltb (v - 3) 4 (omega arith))) refl)
 
-  pub damping_fits : {w : Walk} {ys : List ℕ} {s : Step} → 3 ≤ v → v ≤ 6 → Walked (unsigned 2 (v - 3) cdef_damping 0 ⊕ w) c xs s ys → Walked (damping.enc v ⊕ w) c xs s ys
+  pub damping_fits : {w : Walk} {d : BitWriter} {s : Step} → 3 ≤ v → v ≤ 6 → Walked (unsigned 2 (v - 3) cdef_damping 0 ⊕ w) c d s → Walked (damping.enc v ⊕ w) c d s
   unfolding damping run
   damping_fits {w} h k g =
       let l : v - 3 < 4 = omega arith in
       rw (le-ltb v 3 h) (as_run (ap (λ (o : Out). join o (run w)) (field-run 2 (v - 3) _ l ∙ sym (field-run 2 (v - 3) (Unfit cdef_damping 0 0) l))) g)
 
-module _ (e i v : ℕ) {c : Cursor} {xs : List ℕ} where
-  pub secondary_three : v ≡ 3 → Walked ((secondary e i).enc v) c xs (Refused (Inconsistent e i)) xs
+module _ (e i v : ℕ) {c : BitWriter} where
+  pub secondary_three : v ≡ 3 → Walked ((secondary e i).enc v) c c (Err (Inconsistent e i))
   unfolding secondary checked
   secondary_three h = halt_here (broken (ap not (eq-eqb v 3 h)))
 
-  pub secondary_four : {ys : List ℕ} {s : Step} → v ≡ 4 → Walked (field 2 3 (Unfit e i 0)) c xs s ys → Walked ((secondary e i).enc v) c xs s ys
+  pub secondary_four : {d : BitWriter} {s : Step} → v ≡ 4 → Walked (field 2 3 (Unfit e i 0)) c d s → Walked ((secondary e i).enc v) c d s
   unfolding secondary checked
   secondary_four h g = rw h (held_then refl g)
 
-  pub secondary-other : {ys : List ℕ} {s : Step} → (v ≡ 3 → ⊥) → (v ≡ 4 → ⊥) → Walked (field 2 v (Unfit e i 0)) c xs s ys → Walked ((secondary e i).enc v) c xs s ys
+  pub secondary-other : {d : BitWriter} {s : Step} → (v ≡ 3 → ⊥) → (v ≡ 4 → ⊥) → Walked (field 2 v (Unfit e i 0)) c d s → Walked ((secondary e i).enc v) c d s
   unfolding secondary checked
   secondary-other h k g = held_then (ap not (ne_eqb v 3 h)) (rw (ne_eqb v 4 k, ne_eqb v 3 h) g)
 
@@ -87,21 +88,21 @@ packed-run pe se i p s r e h = go (ltb p 16) (ltb s 3) (eqb s 4) refl refl refl 
     go true false false a b d k = absurd (omega arith)
     go false u v a b d k = absurd (omega arith)
 
-alone : {v w : Walk} {c : Cursor} {xs ys : List ℕ} {s : Step} → Walked v c xs s ys → Walked (v ⊕ either true none w) c xs s ys
+alone : {v w : Walk} {c d : BitWriter} {s : Step} → Walked v c d s → Walked (v ⊕ either true none w) c d s
 unfolding run
 alone {v} {w} g = as_run refl (after_none g)
 
-module _ (p : CdefParams) {c : Cursor} {xs ys : List ℕ} {s : Step} where
+module _ (p : CdefParams) {c d : BitWriter} {s : Step} where
   pub strengths_by : (planes i : ℕ)
       → Walked ((strength cdef_y_pri_strength cdef_y_sec_strength i).enc (get_or p.cdef_y_pri_strength i 0, get_or p.cdef_y_sec_strength i 0)
-      ⊕ either (eqb planes 1) none ((strength cdef_uv_pri_strength cdef_uv_sec_strength i).enc (get_or p.cdef_uv_pri_strength i 0, get_or p.cdef_uv_sec_strength i 0))) c xs s ys
-      → Walked ((strengths planes i).enc (get_or (strengths_out p) i table.none)) c xs s ys
+      ⊕ either (eqb planes 1) none ((strength cdef_uv_pri_strength cdef_uv_sec_strength i).enc (get_or p.cdef_uv_pri_strength i 0, get_or p.cdef_uv_sec_strength i 0))) c d s
+      → Walked ((strengths planes i).enc (get_or (strengths_out p) i table.none)) c d s
   unfolding strengths ◌▷◌ choose absent luma chroma
   strengths_by planes i g = rw (at_place p i) g
 
   -- all of a place in one field
   pub strengths-packed : (planes i y uv : ℕ) {r : Refusal} → (planes ≡ 1 → ⊥) → y ≡ packed (get_or p.cdef_y_pri_strength i 0) (get_or p.cdef_y_sec_strength i 0) → uv ≡ packed (get_or p.cdef_uv_pri_strength i 0) (get_or p.cdef_uv_sec_strength i 0)
-      → y < 64 → uv < 64 → Walked (field 12 (y * 64 + uv) r) c xs s ys → Walked ((strengths planes i).enc (get_or (strengths_out p) i table.none)) c xs s ys
+      → y < 64 → uv < 64 → Walked (field 12 (y * 64 + uv) r) c d s → Walked ((strengths planes i).enc (get_or (strengths_out p) i table.none)) c d s
   unfolding run
   strengths-packed planes i y uv h a b k l g =
       let x = packed-run cdef_y_pri_strength cdef_y_sec_strength i (get_or p.cdef_y_pri_strength i 0) (get_or p.cdef_y_sec_strength i 0) y a k in
@@ -109,15 +110,15 @@ module _ (p : CdefParams) {c : Cursor} {xs ys : List ℕ} {s : Step} where
       strengths_by planes i (by_field 12 (y * 64 + uv) (both_run 6 6 y uv x (rw (ne_eqb planes 1 h) z) l) (omega arith) g)
 
   pub luma_packed : (planes i y : ℕ) {r : Refusal} → planes ≡ 1 → y ≡ packed (get_or p.cdef_y_pri_strength i 0) (get_or p.cdef_y_sec_strength i 0) → y < 64
-      → Walked (field 6 y r) c xs s ys → Walked ((strengths planes i).enc (get_or (strengths_out p) i table.none)) c xs s ys
+      → Walked (field 6 y r) c d s → Walked ((strengths planes i).enc (get_or (strengths_out p) i table.none)) c d s
   luma_packed planes i y h a k g =
       let x = packed-run cdef_y_pri_strength cdef_y_sec_strength i (get_or p.cdef_y_pri_strength i 0) (get_or p.cdef_y_sec_strength i 0) y a k in
       strengths_by planes i (rw (eq-eqb planes 1 h) (alone (by_field 6 y x k g)))
 
   pub no-strengths-by :
       Walked ((no_strength cdef_y_pri_strength cdef_y_sec_strength).enc (get_or p.cdef_y_pri_strength 0 0, get_or p.cdef_y_sec_strength 0 0)
-      ⊕ (no_strength cdef_uv_pri_strength cdef_uv_sec_strength).enc (get_or p.cdef_uv_pri_strength 0 0, get_or p.cdef_uv_sec_strength 0 0)) c xs s ys
-      → Walked (no_strengths.enc (strengths_out p)) c xs s ys
+      ⊕ (no_strength cdef_uv_pri_strength cdef_uv_sec_strength).enc (get_or p.cdef_uv_pri_strength 0 0, get_or p.cdef_uv_sec_strength 0 0)) c d s
+      → Walked (no_strengths.enc (strengths_out p)) c d s
   unfolding no_strengths no_place ◌▷◌ luma chroma
   no-strengths-by g = array_first table.none (λ _. no_place) 8 (strengths_out p) (lit< tt) (rw (at_place p 0) g)
 
@@ -135,7 +136,7 @@ array-most z item (suc m) i n vs =
     let k : i + suc m ≡ suc i + m = omega arith in
     rw (below_both i n (i + suc m) (omega arith), k, array-most z item m (suc i) n (uncons z vs).1)
 
-pub places_by : (planes bits n : ℕ) (vs : List Strengths) {c : Cursor} {xs ys : List ℕ} {s : Step} → n ≡ min (2 ^ bits) 8
-    → Walked ((each_strength planes n).enc vs) c xs s ys → Walked ((each_strength planes (2 ^ bits)).enc vs) c xs s ys
+pub places_by : (planes bits n : ℕ) (vs : List Strengths) {c d : BitWriter} {s : Step} → n ≡ min (2 ^ bits) 8
+    → Walked ((each_strength planes n).enc vs) c d s → Walked ((each_strength planes (2 ^ bits)).enc vs) c d s
 unfolding each_strength
 places_by planes bits n vs h g = as_run (array-most table.none (strengths planes) 8 0 (2 ^ bits) vs) (rw h at g)

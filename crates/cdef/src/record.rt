@@ -1,4 +1,5 @@
 // 5.9.19 cdef_params: its record, and what it goes by.
+ghost use Rattle.std.specs.Prelude.{◌≡◌, ◌||◌, not, ◌^◌, min};
 
 #[derive(Clone, Copy)]
 pub struct CdefParams {
@@ -17,6 +18,26 @@ pub struct CdefContext {
     pub allow_intrabc: bool,
     pub enable_cdef: bool,
     pub planes: u32,
+}
+
+impl CdefContext {
+    pub fn is_off(self) -> bool
+        ensures { result ≡ (self.coded_lossless || self.allow_intrabc || not self.enable_cdef) }
+    {
+        self.coded_lossless || self.allow_intrabc || !self.enable_cdef
+    }
+}
+
+// How many of the eight places of strengths are coded.
+pub fn places(bits: u32) -> usize
+    ensures { result ≡ min (2 ^ bits) 8 }
+{
+    match bits {
+        0 => 1,
+        1 => 2,
+        2 => 4,
+        _ => 8,
+    }
 }
 
 // The most bits that the part takes, whatever its record and what it goes by: crates/room.

@@ -1,6 +1,6 @@
 // 5.9.19 cdef_params, written.
-ghost use Rattle.std.specs.Prelude.{◌≡◌, ◌≤◌, ◌^◌, min};
-ghost use Rattle.bits.specs.Walk.{Walked};
+ghost use Rattle.std.specs.Prelude.{◌≤◌};
+ghost use Rattle.writer.specs.Walked.{Walked};
 ghost use Rattle.parts.specs.Written.{Writes};
 ghost use Rattle.cdef.specs.Cdef.{each_strength, strengths_out, no_strength, no_strengths, cdef_on, cdef_off, cdef_params};
 
@@ -8,52 +8,31 @@ use crate::packed::strengths;
 use crate::record::*;
 use bits::answer::*;
 use bits::element::*;
-use parts::inferred::any;
 use parts::pair::pair;
 use parts::place::*;
-use writer::demand;
+use writer::BitWriter;
 
-fn each_strength(out: &mut [u8], c: Cursor, planes: u32, count: usize, p: CdefParams) -> Step
+fn each_strength(w: &mut BitWriter, planes: u32, count: usize, p: CdefParams) -> Result<(), Refusal>
     requires { count ≤ 8 }
-    ensures { Walked ((each_strength planes count).enc (strengths_out p)) c out.old result out.new }
+    ensures { Walked ((each_strength planes count).enc (strengths_out p)) w.old w.new result }
 {
-    let mut c = c;
-    let mut i: usize = 0;
-    while i < count {
-        let s = strengths(out, c, planes, p, i);
-        let Step::Next(next) = s else {
-            return s;
-        };
-        c = next;
-        i += 1;
+    for i in 0..count {
+        strengths(w, planes, p, i)?;
     }
-    Step::Next(c)
+    Ok(())
 }
 
-// How many of the eight places are coded.
-fn places(bits: u32) -> usize
-    ensures { result ≡ min (2 ^ bits) 8 }
-{
-    match bits {
-        0 => 1,
-        1 => 2,
-        2 => 4,
-        _ => 8,
-    }
-}
-
-fn cdef_on(out: &mut [u8], c: Cursor, planes: u32, p: CdefParams) -> Step
-    ensures { Walked ((cdef_on planes).enc p) c out.old result out.new }
+fn cdef_on(w: &mut BitWriter, planes: u32, p: CdefParams) -> Result<(), Refusal>
+    ensures { Walked ((cdef_on planes).enc p) w.old w.new result }
 {
     if p.cdef_damping < 3 {
-        return Step::Refused(Refusal::Unfit(CDEF_DAMPING, 0, 0));
+        return Err(Refusal::Unfit(CDEF_DAMPING, 0, 0));
     }
     if 6 < p.cdef_damping {
-        return Step::Refused(Refusal::Unfit(CDEF_DAMPING, 0, 0));
+        return Err(Refusal::Unfit(CDEF_DAMPING, 0, 0));
     }
-    let s = pair(
-        out,
-        c,
+    pair(
+        w,
         2,
         p.cdef_damping - 3,
         p.cdef_bits,
@@ -61,48 +40,36 @@ fn cdef_on(out: &mut [u8], c: Cursor, planes: u32, p: CdefParams) -> Step
         0,
         CDEF_BITS,
         0,
-    );
-    let Step::Next(c) = s else {
-        return s;
-    };
-    each_strength(out, c, planes, places(p.cdef_bits), p)
+    )?;
+    each_strength(w, planes, places(p.cdef_bits), p)
 }
 
 fn no_strength(
-    out: &mut [u8],
-    c: Cursor,
+    w: &mut BitWriter,
     pri: u32,
     sec: u32,
     pri_element: u8,
     sec_element: u8,
-) -> Step
-    ensures { Walked ((no_strength pri_element sec_element).enc (pri, sec)) c out.old result out.new }
+) -> Result<(), Refusal>
+    ensures { Walked ((no_strength pri_element sec_element).enc (pri, sec)) w.old w.new result }
 {
-    let s = demand(out, c, pri == 0, pri_element, 0);
-    let Step::Next(c) = s else {
-        return s;
-    };
-    demand(out, c, sec == 0, sec_element, 0)
+    w.demand(pri == 0, pri_element, 0)?;
+    w.demand(sec == 0, sec_element, 0)
 }
 
 // Place 0, and no other.
-fn no_strengths(out: &mut [u8], c: Cursor, p: CdefParams) -> Step
-    ensures { Walked (no_strengths.enc (strengths_out p)) c out.old result out.new }
+fn no_strengths(w: &mut BitWriter, p: CdefParams) -> Result<(), Refusal>
+    ensures { Walked (no_strengths.enc (strengths_out p)) w.old w.new result }
 {
-    let s = no_strength(
-        out,
-        c,
+    no_strength(
+        w,
         p.cdef_y_pri_strength[0],
         p.cdef_y_sec_strength[0],
         CDEF_Y_PRI_STRENGTH,
         CDEF_Y_SEC_STRENGTH,
-    );
-    let Step::Next(c) = s else {
-        return s;
-    };
+    )?;
     no_strength(
-        out,
-        c,
+        w,
         p.cdef_uv_pri_strength[0],
         p.cdef_uv_sec_strength[0],
         CDEF_UV_PRI_STRENGTH,
@@ -110,39 +77,38 @@ fn no_strengths(out: &mut [u8], c: Cursor, p: CdefParams) -> Step
     )
 }
 
-fn cdef_off(out: &mut [u8], c: Cursor, p: CdefParams) -> Step
-    ensures { Walked (cdef_off.enc p) c out.old result out.new }
+fn cdef_off(w: &mut BitWriter, p: CdefParams) -> Result<(), Refusal>
+    ensures { Walked (cdef_off.enc p) w.old w.new result }
 {
-    let s = demand(out, c, p.cdef_bits == 0, CDEF_BITS, 0);
-    let Step::Next(c) = s else {
-        return s;
-    };
-    let s = no_strengths(out, c, p);
-    let Step::Next(c) = s else {
-        return s;
-    };
-    demand(out, c, p.cdef_damping == 3, CDEF_DAMPING, 0)
+    w.demand(p.cdef_bits == 0, CDEF_BITS, 0)?;
+    no_strengths(w, p)?;
+    w.demand(p.cdef_damping == 3, CDEF_DAMPING, 0)
 }
 
-fn cdef_params(out: &mut [u8], c: Cursor, p: CdefParams, context: CdefContext) -> Step
-    ensures { Walked ((cdef_params context).enc p) c out.old result out.new }
+fn cdef_params(w: &mut BitWriter, p: CdefParams, context: CdefContext) -> Result<(), Refusal>
+    ensures { Walked ((cdef_params context).enc p) w.old w.new result }
 {
-    if any(
-        context.coded_lossless,
-        context.allow_intrabc,
-        !context.enable_cdef,
-    ) {
-        return cdef_off(out, c, p);
+    if context.is_off() {
+        return cdef_off(w, p);
     }
-    cdef_on(out, c, context.planes, p)
+    cdef_on(w, context.planes, p)
 }
 
 // The part written from the bit `place` of `out` on.
-pub fn write_cdef_params(p: CdefParams, context: CdefContext, out: &mut [u8], place: u32) -> Answer
+pub fn write_cdef_params(
+    p: CdefParams,
+    context: CdefContext,
+    out: &mut [u8],
+    place: u32,
+) -> Result<u32, Refusal>
     ensures { Writes ((cdef_params context).enc p) place out.old result out.new }
 {
     let mut near = [0u8; (CDEF_PARAMS_MAX_BITS + SPARE_BITS) / 64 * 8];
     lend(out, place, &mut near);
-    let s = cdef_params(&mut near, start(place), p, context);
-    settle(s, place, &near, out)
+    let mut w = BitWriter {
+        out: &mut near,
+        at: start(place),
+    };
+    let walk = cdef_params(&mut w, p, context);
+    settle(walk, &w, place, out)
 }

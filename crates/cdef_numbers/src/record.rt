@@ -1,4 +1,4 @@
-// The record of the CDEF parameters from its numbers, the context first.
+// The record of the CDEF parameters from its numbers, the context first. (No `From`: neither the array nor the record is of this crate.)
 ghost use Rattle.std.specs.Prelude.{◌≡◌, ◌≤◌};
 ghost use Rattle.cdef_numbers.specs.Numbers.{cdef_context, strengths, cdef_params};
 

@@ -1,74 +1,63 @@
 // 5.9.19 cdef_params, read into the record's numbers, whose context is kept.
-ghost use Rattle.std.specs.Prelude.{◌<◌, replicate, pos};
+#![tactic(auto, using(crate::proofs::Strengths::strength_fillings))]
+
+ghost use Rattle.std.specs.Prelude.{◌≡◌, ◌<◌, replicate, pos};
 ghost use Rattle.bits.specs.Codec.{absent, choose};
-ghost use Rattle.fill.specs.Fills.{Fills, made, natural};
+ghost use Rattle.reader.specs.Reading.{Said};
+ghost use Rattle.fill.specs.Fills.{Fills};
 ghost use Rattle.parts_reader.specs.Reading.{Tells};
-ghost use Rattle.cdef.specs.Cdef.{damping, none, strength, strengths, each_strength, cdef_on, cdef_off, cdef_params};
+ghost use Rattle.cdef.specs.Cdef.{damping, swapped, none, strength, strengths, each_strength, cdef_on, cdef_off, cdef_params};
 ghost use Rattle.cdef_reader.specs.Layout.{strength_place, strengths_place, each_place, cdef_place, cdef_by};
 
-use bits::answer::*;
-use bits::number::pow2;
-use cdef::record::CdefContext;
+use bits::answer::Refusal;
+use cdef::record::{CdefContext, places};
 use cdef_numbers::place;
 use cdef_numbers::record::cdef_context;
-use fill::*;
-use parts::inferred::any;
-use parts_reader::place::*;
+use parts_reader::place::begin;
+use reader::BitReader;
 
-fn damping(s: &[u8], c: Cursor, v: &mut i32) -> Step
-    ensures { Fills (made natural) damping.dec s.now c result v.old v.new }
+fn damping(r: &mut BitReader) -> Result<u32, Refusal>
+    ensures { Said damping.dec r.old r.new result }
 {
-    let mut minus_3 = 0;
-    let t = f(s, c, 2, &mut minus_3);
-    let Step::Next(c) = t else {
-        return t;
-    };
-    *v = (minus_3 + 3) as i32;
-    Step::Next(c)
+    Ok(r.f(2)? + 3)
 }
 
-// A primary strength of four bits and a secondary one of two, read as one field. A secondary one of 3 stands for 4.
-fn strength(s: &[u8], c: Cursor, pri: usize, sec: usize, n: &mut [i32; 38]) -> Step
+// What the two bits of a secondary strength stand for.
+fn secondary(bits: u32) -> i32
+    requires { bits < 4 }
+    ensures { result ≡ pos (swapped bits) }
+{
+    if bits == 3 { 4 } else { bits as i32 }
+}
+
+// A primary strength of four bits and a secondary one of two, read as one field.
+fn strength(r: &mut BitReader, pri: usize, sec: usize, n: &mut [i32; 38]) -> Result<(), Refusal>
     requires { (pri < 38) × (sec < 38) }
-    ensures { Fills (strength_place pri sec) (strength 0 0 0).dec s.now c result n.old n.new }
+    ensures { Fills (strength_place pri sec) (strength 0 0 0).dec r.old r.new result n.old n.new }
 {
-    let mut both = 0;
-    let t = f(s, c, 6, &mut both);
-    let Step::Next(c) = t else {
-        return t;
-    };
+    let both = r.f(6)?;
     n[pri] = (both / 4) as i32;
-    let second = both % 4;
-    if second == 3 {
-        n[sec] = 4;
-        return Step::Next(c);
-    }
-    n[sec] = second as i32;
-    Step::Next(c)
+    n[sec] = secondary(both % 4);
+    Ok(())
 }
 
-fn strengths(s: &[u8], c: Cursor, planes: u32, i: usize, n: &mut [i32; 38]) -> Step
+fn strengths(r: &mut BitReader, planes: u32, i: usize, n: &mut [i32; 38]) -> Result<(), Refusal>
     requires { i < 8 }
-    ensures { Fills (strengths_place i) (strengths planes i).dec s.now c result n.old n.new }
+    ensures { Fills (strengths_place i) (strengths planes i).dec r.old r.new result n.old n.new }
 {
-    let t = strength(
-        s,
-        c,
+    strength(
+        r,
         place::CDEF_Y_PRI_STRENGTH + i,
         place::CDEF_Y_SEC_STRENGTH + i,
         n,
-    );
-    let Step::Next(c) = t else {
-        return t;
-    };
+    )?;
     if planes == 1 {
         n[place::CDEF_UV_PRI_STRENGTH + i] = 0;
         n[place::CDEF_UV_SEC_STRENGTH + i] = 0;
-        return Step::Next(c);
+        return Ok(());
     }
     strength(
-        s,
-        c,
+        r,
         place::CDEF_UV_PRI_STRENGTH + i,
         place::CDEF_UV_SEC_STRENGTH + i,
         n,
@@ -76,93 +65,88 @@ fn strengths(s: &[u8], c: Cursor, planes: u32, i: usize, n: &mut [i32; 38]) -> S
 }
 
 // A place that is not coded is 0.
-fn strengths_if(s: &[u8], c: Cursor, coded: bool, planes: u32, i: usize, n: &mut [i32; 38]) -> Step
+fn strengths_if(
+    r: &mut BitReader,
+    coded: bool,
+    planes: u32,
+    i: usize,
+    n: &mut [i32; 38],
+) -> Result<(), Refusal>
     requires { i < 8 }
-    ensures { Fills (strengths_place i) (choose coded (strengths planes i) (absent none)).dec s.now c result n.old n.new }
+    ensures { Fills (strengths_place i) (choose coded (strengths planes i) (absent none)).dec r.old r.new result n.old n.new }
 {
     if coded {
-        return strengths(s, c, planes, i, n);
+        return strengths(r, planes, i, n);
     }
     n[place::CDEF_Y_PRI_STRENGTH + i] = 0;
     n[place::CDEF_Y_SEC_STRENGTH + i] = 0;
     n[place::CDEF_UV_PRI_STRENGTH + i] = 0;
     n[place::CDEF_UV_SEC_STRENGTH + i] = 0;
-    Step::Next(c)
+    Ok(())
 }
 
-fn each_strength(s: &[u8], c: Cursor, planes: u32, count: usize, n: &mut [i32; 38]) -> Step
-    ensures { Fills each_place (each_strength planes count).dec s.now c result n.old n.new }
+fn each_strength(
+    r: &mut BitReader,
+    planes: u32,
+    count: usize,
+    n: &mut [i32; 38],
+) -> Result<(), Refusal>
+    ensures { Fills each_place (each_strength planes count).dec r.old r.new result n.old n.new }
 {
-    let mut p = c;
-    let mut i = 0;
-    while i < 8 {
-        let t = strengths_if(s, p, i < count, planes, i, n);
-        let Step::Next(q) = t else {
-            return t;
-        };
-        p = q;
-        i += 1;
+    for i in 0..8 {
+        strengths_if(r, i < count, planes, i, n)?;
     }
-    Step::Next(p)
+    Ok(())
 }
 
-fn cdef_on(s: &[u8], c: Cursor, planes: u32, n: &mut [i32; 38]) -> Step
-    ensures { Fills cdef_place (cdef_on planes).dec s.now c result n.old n.new }
+#[tactic(auto, using(crate::proofs::Strengths::cdef_fillings), unfolding(cdef::specs::Cdef::cdef_on, cdef::specs::Cdef::on_table, crate::specs::Layout::cdef_place))]
+fn cdef_on(r: &mut BitReader, planes: u32, n: &mut [i32; 38]) -> Result<(), Refusal>
+    ensures { Fills cdef_place (cdef_on planes).dec r.old r.new result n.old n.new }
 {
-    let t = damping(s, c, &mut n[place::CDEF_DAMPING]);
-    let Step::Next(c) = t else {
-        return t;
-    };
-    let mut bits = 0;
-    let t = f(s, c, 2, &mut bits);
-    let Step::Next(c) = t else {
-        return t;
-    };
+    n[place::CDEF_DAMPING] = damping(r)? as i32;
+    let bits = r.f(2)?;
     n[place::CDEF_BITS] = bits as i32;
-    each_strength(s, c, planes, pow2(bits) as usize, n)
+    each_strength(r, planes, places(bits), n)
 }
 
 // No place is coded.
-fn cdef_off(s: &[u8], c: Cursor, n: &mut [i32; 38]) -> Step
-    ensures { Fills cdef_place cdef_off.dec s.now c result n.old n.new }
+#[tactic(auto, using(crate::proofs::Strengths::cdef_fillings))]
+fn cdef_off(r: &mut BitReader, n: &mut [i32; 38]) -> Result<(), Refusal>
+    ensures { Fills cdef_place cdef_off.dec r.old r.new result n.old n.new }
 {
     n[place::CDEF_DAMPING] = 3;
     n[place::CDEF_BITS] = 0;
-    each_strength(s, c, 1, 0, n)
+    each_strength(r, 1, 0, n)
 }
 
-fn cdef_params(s: &[u8], c: Cursor, context: CdefContext, n: &mut [i32; 38]) -> Step
-    ensures { Fills cdef_place (cdef_params context).dec s.now c result n.old n.new }
+#[tactic(auto, using(fill::proofs::Filling::fillings), unfolding(cdef::specs::Cdef::cdef_params))]
+fn cdef_params(r: &mut BitReader, context: CdefContext, n: &mut [i32; 38]) -> Result<(), Refusal>
+    ensures { Fills cdef_place (cdef_params context).dec r.old r.new result n.old n.new }
 {
-    if any(
-        context.coded_lossless,
-        context.allow_intrabc,
-        !context.enable_cdef,
-    ) {
-        return cdef_off(s, c, n);
+    if context.is_off() {
+        return cdef_off(r, n);
     }
-    cdef_on(s, c, context.planes, n)
+    cdef_on(r, context.planes, n)
 }
 
 // The part from the bit `place` of `input` on, behind the context's numbers; where it is refused, all numbers are as they were.
-pub fn fill_cdef_params(input: &[u8], place: u32, context: CdefContext, n: &mut [i32; 38]) -> Answer
+pub fn fill_cdef_params(
+    input: &[u8],
+    place: u32,
+    context: CdefContext,
+    n: &mut [i32; 38],
+) -> Result<u32, Refusal>
     ensures { Tells cdef_place (cdef_params context) place input.now n.old result n.new }
 {
-    let b = begin(input, place);
-    let Step::Next(c) = b else {
-        return answer(b);
-    };
+    let mut r = begin(input, place)?;
     let mut m = *n;
-    let t = cdef_params(input, c, context, &mut m);
-    let Step::Next(_) = t else {
-        return answer(t);
-    };
+    cdef_params(&mut r, context, &mut m)?;
     *n = m;
-    answer(t)
+    Ok(r.at as u32)
 }
 
 // The same, by the context that stands in the numbers.
-pub fn read_cdef_numbers(input: &[u8], place: u32, n: &mut [i32; 38]) -> Answer
+pub fn read_cdef_numbers(input: &[u8], place: u32, n: &mut [i32; 38]) -> Result<u32, Refusal>
     ensures { Tells cdef_place (cdef_by n.old) place input.now n.old result n.new }
 {
     let context = cdef_context(n);
@@ -170,7 +154,12 @@ pub fn read_cdef_numbers(input: &[u8], place: u32, n: &mut [i32; 38]) -> Answer
 }
 
 // The part from the bit `place` of `input` on; where it is refused, all numbers are 0. (The context's places are 0 in either case.)
-pub fn read_cdef_params(input: &[u8], place: u32, context: CdefContext, n: &mut [i32; 38]) -> Answer
+pub fn read_cdef_params(
+    input: &[u8],
+    place: u32,
+    context: CdefContext,
+    n: &mut [i32; 38],
+) -> Result<u32, Refusal>
     ensures { Tells cdef_place (cdef_params context) place input.now (replicate 38 (pos 0)) result n.new }
 {
     *n = [0i32; 38];

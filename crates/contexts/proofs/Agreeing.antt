@@ -4,9 +4,10 @@ use mathlib.Core.Bool.{Bool, true, false}
 use mathlib.Core.List.{List}
 use Prim.Native.Nat.{ℕ}
 use lib.Dec.{eqb}
-use Rattle.bits.specs.Codec.{◌▷◌, select, via, flag, inferred}
-use Rattle.bits.specs.declared.answer.Answer.{Answer}
-use Rattle.bits.specs.declared.answer.Answer.TheVariants as W
+use Rattle.bits.specs.Codec.{◌▷◌, select, via, flag, inferred, Nil, nil}
+use Rattle.bits.specs.Written.{Answer}
+use Rattle.bits.specs.declared.answer.Refusal.{Refusal}
+use Rattle.std.specs.Prelude.{Result, Ok}
 use Rattle.obu.specs.Obu.{obu}
 use Rattle.obu.specs.Writer.{Writes}
 use Rattle.obu.specs.Demand3.{Consistent}
@@ -17,8 +18,6 @@ use Rattle.sequence.specs.Optional.{flag_if}
 use Rattle.sequence.specs.Color.{plane_count, color_rest, color_config}
 use Rattle.sequence.specs.Sequence.{color_and_grain, tools_and_color, body, sequence_header_obu, sequence_header}
 use Rattle.sequence.proofs.Demand.{sequence_demand3}
-use Rattle.sequence_reader.specs.declared.read.Outcome.{Outcome}
-use Rattle.sequence_reader.specs.declared.read.Outcome.TheVariants.{Done}
 use Rattle.sequence_reader.specs.Layouts.{record_of}
 use Rattle.sequence_reader.specs.Reader.{Answers}
 use Rattle.sequence_reader.proofs.Setting.{record_sets}
@@ -64,8 +63,8 @@ consistent_planes h c =
     let g = sequence_demand3.consistent_is_written h c in
     (record_sets g.0 _ _ (sequence_demand3.spelled_is_accepted h g.0 g.1.spells)).color.num_planes
 
-pub writer_agrees : (h : SequenceHeaderObu) {xs ys : List ℕ} {a : Answer} {n : ℕ} → Writes (sequence_header.enc h) xs a ys → a ≡ W.Done n → Agrees h
+pub writer_agrees : (h : SequenceHeaderObu) {xs ys : List ℕ} {a : Answer} {n : ℕ} → Writes (sequence_header.enc h) xs a ys → a ≡ Ok n → Agrees h
 writer_agrees h w e = agrees h (consistent_planes h (done_is_ended w e))
 
-pub reader_agrees : (xs ns : List ℕ) {o : Outcome} {ms : List ℕ} → Answers xs ns o ms → o ≡ Done → Agrees (record_of ms)
+pub reader_agrees : (xs ns : List ℕ) {o : Result Nil Refusal} {ms : List ℕ} → Answers xs ns o ms → o ≡ Ok nil → Agrees (record_of ms)
 reader_agrees xs ns {ms = ms} a e = let g = record_is xs ns a e in agrees (record_of ms) (record_sets xs (record_of ms) g.0 g.1).color.num_planes

@@ -4,13 +4,11 @@
 use lines::input::{LineReader, TooLong};
 use lines::parse::hex;
 use listing::list::list;
-use listing::out::text;
 use std::io;
-use std::io::Read;
 
 fn copied(rt: &impl Print, line: &[u8]) -> io::Result<()> {
-    text(rt, line)?;
-    text(rt, b"\n")
+    rt.write_all(line)?;
+    rt.write_all(b"\n")
 }
 
 fn header(rt: &impl Print, line: &[u8], bytes: &mut [u8]) -> io::Result<()> {
@@ -20,33 +18,18 @@ fn header(rt: &impl Print, line: &[u8], bytes: &mut [u8]) -> io::Result<()> {
                 list(rt, header)?;
             }
         }
-        None => text(rt, b"bad\n")?,
+        None => rt.write_all(b"bad\n")?,
     }
-    text(rt, b"\n")
+    rt.write_all(b"\n")
 }
 
-fn one_line(rt: &impl Print, line: &[u8], bytes: &mut [u8]) -> io::Result<()> {
+fn one_line(rt: &impl Print, line: Result<&[u8], TooLong>, bytes: &mut [u8]) -> io::Result<()> {
     match line {
-        [] => Ok(()),
-        [b'#', ..] => copied(rt, line),
-        _ => header(rt, line, bytes),
+        Ok([]) => Ok(()),
+        Ok(line @ [b'#', ..]) => copied(rt, line),
+        Ok(line) => header(rt, line, bytes),
+        Err(TooLong) => rt.write_all(b"bad\n\n"),
     }
-}
-
-fn all<R: Read>(
-    rt: &impl Print,
-    lines: &mut LineReader<R>,
-    line: &mut [u8],
-    bytes: &mut [u8],
-) -> io::Result<()> {
-    for _ in 0..u64::MAX {
-        match lines.next_line(line) {
-            Some(Ok(line)) => one_line(rt, line, bytes)?,
-            Some(Err(TooLong)) => text(rt, b"bad\n\n")?,
-            None => return Ok(()),
-        }
-    }
-    Ok(())
 }
 
 fn main(rt: HostRuntime) -> io::Result<()> {
@@ -54,5 +37,5 @@ fn main(rt: HostRuntime) -> io::Result<()> {
     let mut line = [0u8; 131072];
     let mut bytes = [0u8; 65536];
     let mut lines = LineReader::new(rt.stdin(), &mut chunk);
-    all(&rt, &mut lines, &mut line, &mut bytes)
+    lines.try_for_each(&mut line, |line| one_line(&rt, line, &mut bytes))
 }

@@ -1,12 +1,11 @@
 -- The contract of every function that reads into a place that it is lent, and how a value lies in a place.
-use Rattle.std.specs.Prelude.{Bool, not, cond, List, [], ◌∷◌, ℕ, zero, suc, eqb, ltb, get_or, set, ℤ, pos, negsuc}
+use Rattle.std.specs.Prelude.{Bool, not, cond, List, [], ◌∷◌, ℕ, zero, suc, eqb, ltb, get_or, set, ℤ, pos, negsuc, Result, Ok, Err}
 use mir.Val.{bool_byte}
 use Rattle.bits.specs.Bits.{Bits}
-use Rattle.bits.specs.Codec.{Got, got, and_then, uncons}
-use Rattle.bits.specs.Answers.{Result, value, refused, Reads}
-use Rattle.bits.specs.declared.answer.Cursor.{Cursor}
-use Rattle.bits.specs.declared.answer.Step.{Step}
-use Rattle.bits.specs.declared.answer.Step.TheVariants.{Next, Refused}
+use Rattle.bits.specs.Codec.{Got, got, and_then, uncons, Nil}
+use Rattle.bits.specs.declared.answer.Refusal.{Refusal}
+use Rattle.reader.specs.declared.BitReader.{BitReader}
+use Rattle.reader.specs.Reading.{Said}
 
 -- How a value is held as an element of an array, and what an element is held to be.
 pub record Way (N A : Type 0) : Type 0 where
@@ -75,12 +74,12 @@ unfoldable pub each : {M A : Type 0} → A → (ℕ → Layout M A) → ℕ → 
 each z l zero i n = nowhere []
 each z l (suc k) i n = of (uncons z) (λ p. p.0 ∷ p.1) (cond (ltb i n) (l i) (nowhere z) ▸ each z l k (suc i) n)
 
--- a step and what it left in the place
-abbrev pub beside : {M : Type 0} → Step → M → Result M
-beside (Next c) m = value m c
-beside (Refused r) m = refused r
+-- an answer that has no value of its own, and what it left in the place
+abbrev pub beside : {M : Type 0} → Result Nil Refusal → M → Result M Refusal
+beside (Ok u) m = Ok m
+beside (Err y) m = Err y
 
--- Of the bytes xs, from the cursor c on, d reads a value, s goes on behind it, and the place, which held m, holds n: the value put into m. Or d reads
--- none, and s is its refusal, which says nothing of n.
-pub data Fills {A M : Type 0} (l : Layout M A) (d : Bits → Got A) (xs : List ℕ) (c : Cursor) (s : Step) (m n : M) : Type 0 where
-  fills : Reads (λ bs. and_then (d bs) (λ a rest. got (l.put a m) rest)) xs c (beside s n) → Fills l d xs c s m n
+-- d reads a value, the reader goes on behind it, and the place, which held m, holds n: the value put into m. Or d reads none, and g is its refusal, which
+-- says nothing of n.
+pub data Fills {A M : Type 0} (l : Layout M A) (d : Bits → Got A) (old new : BitReader) (g : Result Nil Refusal) (m n : M) : Type 0 where
+  fills : Said (λ bs. and_then (d bs) (λ a rest. got (l.put a m) rest)) old new (beside g n) → Fills l d old new g m n

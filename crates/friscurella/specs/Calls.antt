@@ -12,8 +12,6 @@ use Rattle.parts_reader.specs.Reading.{told as part-told}
 use Rattle.sequence.specs.declared.record.SequenceHeaderObu.{SequenceHeaderObu}
 use Rattle.sequence_reader.specs.Layouts.{numbers_of}
 use Rattle.sequence_reader.specs.declared.read.Part.{Part}
-use Rattle.sequence_reader.specs.declared.read.Outcome.{Outcome}
-use Rattle.sequence_reader.specs.declared.read.Outcome.TheVariants.{Done, Refused}
 
 -- 10000 * major + 100 * minor + patch
 abbrev pub version : ℕ
@@ -51,11 +49,6 @@ was_read (stop r) xs = told (numbered r) xs
 -- refuses, the array is as it was
 abbrev pub part_was_read : {A : Type 0} → In A → (List ℤ → Codec A) → ℕ → List ℕ → List ℤ → Lent ℤ
 part_was_read l by place xs ns = told (answer_numbers (part-told l ns (read_part (by ns) place xs)).answer) (part-told l ns (read_part (by ns) place xs)).numbers
-
--- what the outcome of the reader in Rattle tells, for an inner contract
-abbrev pub outcome_numbers : Outcome → Numbered
-outcome_numbers Done = plain 0
-outcome_numbers (Refused r) = numbered r
 
 -- the first byte of a part, and how many it has
 abbrev pub part_numbers : Part → List ℕ

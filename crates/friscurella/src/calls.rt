@@ -19,9 +19,9 @@ ghost use Rattle.contexts.specs.Contexts.{quantization_context, loop_filter_cont
 ghost use Rattle.contexts.specs.Numbers.{quantization_numbers, loop_filter_numbers, cdef_numbers, lr_numbers};
 ghost use Rattle.starter.specs.Video.{video};
 ghost use Rattle.words.specs.Sentence.{explained, cut};
-ghost use Rattle.friscurella.specs.Calls.{version, answer_of, outcome_numbers, part_numbers, lent, wrote_obu, wrote_part, was_read, part_was_read};
+ghost use Rattle.friscurella.specs.Calls.{version, answer_of, part_numbers, lent, wrote_obu, wrote_part, was_read, part_was_read};
 
-use bits::answer::{Numbered, answer_numbers};
+use bits::answer::Numbered;
 use cdef_numbers::write_cdef_numbers;
 use cdef_reader::read::read_cdef_numbers;
 use contexts::of_numbers::*;
@@ -36,7 +36,7 @@ use segmentation_numbers::write_segmentation_numbers;
 use segmentation_reader::read::read_segmentation_numbers;
 use sequence_numbers::{write_delimiter_numbers, write_sequence_numbers};
 use sequence_reader::place;
-use sequence_reader::read::{Outcome, payload_part, read_sequence_header};
+use sequence_reader::read::{payload_part, read_sequence_header};
 use starter::video;
 use words::explain;
 
@@ -46,21 +46,6 @@ fn tell(n: Numbered, answer: &mut [u32; 4]) -> u32
 {
     *answer = [n.number, n.first, n.second, n.third];
     n.number
-}
-
-// What a reader's outcome tells.
-fn outcome_numbers(o: Outcome) -> Numbered
-    ensures { result ≡ outcome_numbers o }
-{
-    match o {
-        Outcome::Done => Numbered {
-            number: 0,
-            first: 0,
-            second: 0,
-            third: 0,
-        },
-        Outcome::Refused(r) => bits::answer::numbers(r),
-    }
 }
 
 // The version of the library, as the header for C has it.
@@ -98,7 +83,7 @@ pub fn friscurella_write_sequence_header(
     ensures { lent result answer.new out.new ≡ wrote_obu (sequence_header.enc (record_of «record».now)) out.old }
 {
     let a = write_sequence_numbers(record, out);
-    tell(answer_numbers(a), answer)
+    tell(a.into(), answer)
 }
 
 pub fn friscurella_write_temporal_delimiter(
@@ -109,7 +94,7 @@ pub fn friscurella_write_temporal_delimiter(
     ensures { lent result answer.new out.new ≡ wrote_obu (temporal_delimiter (header_of «record».now)) out.old }
 {
     let a = write_delimiter_numbers(record, out);
-    tell(answer_numbers(a), answer)
+    tell(a.into(), answer)
 }
 
 pub fn friscurella_write_quantization_params(
@@ -121,7 +106,7 @@ pub fn friscurella_write_quantization_params(
     ensures { lent result answer.new out.new ≡ wrote_part (quantization_walk «record».now) place out.old }
 {
     let a = write_quantization_numbers(record, out, place);
-    tell(answer_numbers(a), answer)
+    tell(a.into(), answer)
 }
 
 pub fn friscurella_write_segmentation_params(
@@ -133,7 +118,7 @@ pub fn friscurella_write_segmentation_params(
     ensures { lent result answer.new out.new ≡ wrote_part (segmentation_walk «record».now) place out.old }
 {
     let a = write_segmentation_numbers(record, out, place);
-    tell(answer_numbers(a), answer)
+    tell(a.into(), answer)
 }
 
 pub fn friscurella_write_loop_filter_params(
@@ -145,7 +130,7 @@ pub fn friscurella_write_loop_filter_params(
     ensures { lent result answer.new out.new ≡ wrote_part (loop_filter_walk «record».now) place out.old }
 {
     let a = write_loop_filter_numbers(record, out, place);
-    tell(answer_numbers(a), answer)
+    tell(a.into(), answer)
 }
 
 pub fn friscurella_write_cdef_params(
@@ -157,7 +142,7 @@ pub fn friscurella_write_cdef_params(
     ensures { lent result answer.new out.new ≡ wrote_part (cdef_walk «record».now) place out.old }
 {
     let a = write_cdef_numbers(record, out, place);
-    tell(answer_numbers(a), answer)
+    tell(a.into(), answer)
 }
 
 pub fn friscurella_write_lr_params(
@@ -169,7 +154,7 @@ pub fn friscurella_write_lr_params(
     ensures { lent result answer.new out.new ≡ wrote_part (lr_walk «record».now) place out.old }
 {
     let a = write_restoration_numbers(record, out, place);
-    tell(answer_numbers(a), answer)
+    tell(a.into(), answer)
 }
 
 // What a part goes by, from the sequence header's record and the frame's own values.
@@ -227,7 +212,7 @@ pub fn friscurella_read_sequence_header(
     ensures { lent result answer.new «record».new ≡ was_read (read sequence_header input.now) «record».old }
 {
     let o = read_sequence_header(input, record);
-    tell(outcome_numbers(o), answer)
+    tell(o.and(Ok(0)).into(), answer)
 }
 
 // Each part is read by the context that stands in its record; where it is refused, the record is as it was.
@@ -240,7 +225,7 @@ pub fn friscurella_read_quantization_params(
     ensures { lent result answer.new «record».new ≡ part_was_read quantization_place quantization_by place input.now «record».old }
 {
     let a = read_quantization_numbers(input, place, record);
-    tell(answer_numbers(a), answer)
+    tell(a.into(), answer)
 }
 
 pub fn friscurella_read_lr_params(
@@ -252,7 +237,7 @@ pub fn friscurella_read_lr_params(
     ensures { lent result answer.new «record».new ≡ part_was_read lr_place lr_by place input.now «record».old }
 {
     let a = read_lr_numbers(input, place, record);
-    tell(answer_numbers(a), answer)
+    tell(a.into(), answer)
 }
 
 pub fn friscurella_read_loop_filter_params(
@@ -265,7 +250,7 @@ pub fn friscurella_read_loop_filter_params(
     ensures { lent result answer.new «record».new ≡ part_was_read loop_filter_place (loop_filter_by previous.now) place input.now «record».old }
 {
     let a = read_loop_filter_numbers(input, place, previous, record);
-    tell(answer_numbers(a), answer)
+    tell(a.into(), answer)
 }
 
 pub fn friscurella_read_segmentation_params(
@@ -277,7 +262,7 @@ pub fn friscurella_read_segmentation_params(
     ensures { lent result answer.new «record».new ≡ part_was_read segmentation_place segmentation_by place input.now «record».old }
 {
     let a = read_segmentation_numbers(input, place, record);
-    tell(answer_numbers(a), answer)
+    tell(a.into(), answer)
 }
 
 pub fn friscurella_read_cdef_params(
@@ -289,7 +274,7 @@ pub fn friscurella_read_cdef_params(
     ensures { lent result answer.new «record».new ≡ part_was_read cdef_place cdef_by place input.now «record».old }
 {
     let a = read_cdef_numbers(input, place, record);
-    tell(answer_numbers(a), answer)
+    tell(a.into(), answer)
 }
 
 // The payload's first byte and its length.

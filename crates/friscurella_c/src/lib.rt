@@ -21,7 +21,7 @@ ghost use Rattle.contexts.specs.Contexts.{quantization_context, loop_filter_cont
 ghost use Rattle.contexts.specs.Numbers.{quantization_numbers, loop_filter_numbers, cdef_numbers, lr_numbers};
 ghost use Rattle.starter.specs.Video.{video};
 ghost use Rattle.words.specs.Sentence.{explained, cut};
-ghost use Rattle.friscurella.specs.Calls.{version, answer_of, outcome_numbers, part_numbers, lent, wrote_obu, wrote_part, was_read, part_was_read};
+ghost use Rattle.friscurella.specs.Calls.{version, answer_of, part_numbers, lent, wrote_obu, wrote_part, was_read, part_was_read};
 
 use friscurella::calls;
 use sequence_reader::place;

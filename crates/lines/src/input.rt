@@ -75,6 +75,23 @@ impl<'a, R: Read> LineReader<'a, R> {
         }
         Some(Ok(&line[..count]))
     }
+
+    // Calls `f` with each line in turn, up to the first error. As many turns as in `next_line`, for the same reason.
+    pub fn try_for_each<E, F: FnMut(Result<&[u8], TooLong>) -> Result<(), E>>(
+        &mut self,
+        line: &mut [u8],
+        mut f: F,
+    ) -> Result<(), E>
+        requires { F.IsAlwaysCallable f }
+    {
+        for _ in 0..u64::MAX {
+            match self.next_line(line) {
+                Some(line) => f(line)?,
+                None => return Ok(()),
+            }
+        }
+        Ok(())
+    }
 }
 
 // Reads until a slice is full, the input ends or a read fails, and answers how many bytes stand at the slice's start.

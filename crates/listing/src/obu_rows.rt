@@ -1,47 +1,41 @@
 // 5.3: the rows of the header, of the size, and of the trailing bits.
-use crate::row::*;
-use bits::answer::Cursor;
+use crate::row::Listing;
 use std::io;
 
 // 5.3.3
-fn obu_extension_header(rt: &impl Print, s: &[u8], c: Cursor) -> io::Result<Cursor> {
-    let c = f(rt, s, c, 3, b"temporal_id")?;
-    let c = f(rt, s, c, 2, b"spatial_id")?;
-    f(rt, s, c, 3, b"extension_header_reserved_3bits")
+fn obu_extension_header(l: &mut Listing<impl Print>) -> io::Result<()> {
+    l.f(3, b"temporal_id")?;
+    l.f(2, b"spatial_id")?;
+    l.f(3, b"extension_header_reserved_3bits")
 }
 
 // 5.3.2
-pub fn obu_header(
-    rt: &impl Print,
-    s: &[u8],
-    c: Cursor,
-    extension_flag: bool,
-) -> io::Result<Cursor> {
-    let c = flag(rt, s, c, b"obu_forbidden_bit")?;
-    let c = f(rt, s, c, 4, b"obu_type")?;
-    let c = flag(rt, s, c, b"obu_extension_flag")?;
-    let c = flag(rt, s, c, b"obu_has_size_field")?;
-    let c = flag(rt, s, c, b"obu_reserved_1bit")?;
+pub fn obu_header(l: &mut Listing<impl Print>, extension_flag: bool) -> io::Result<()> {
+    l.flag(b"obu_forbidden_bit")?;
+    l.f(4, b"obu_type")?;
+    l.flag(b"obu_extension_flag")?;
+    l.flag(b"obu_has_size_field")?;
+    l.flag(b"obu_reserved_1bit")?;
     if extension_flag {
-        return obu_extension_header(rt, s, c);
+        obu_extension_header(l)?;
     }
-    Ok(c)
+    Ok(())
 }
 
 // Without a size field the OBU is all that follows.
-pub fn obu_size(rt: &impl Print, s: &[u8], c: Cursor, has_size_field: bool) -> io::Result<Cursor> {
+pub fn obu_size(l: &mut Listing<impl Print>, has_size_field: bool) -> io::Result<()> {
     if has_size_field {
-        return leb128(rt, s, c, b"obu_size");
+        l.leb128(b"obu_size")
+    } else {
+        l.inferred(b"obu_size", (l.peek().rest() / 8) as u64)
     }
-    inferred(rt, b"obu_size", (reader::rest(s, c.at) / 8) as u64)?;
-    Ok(c)
 }
 
 // 5.3.4
-pub fn trailing_bits(rt: &impl Print, s: &[u8], c: Cursor) -> io::Result<()> {
-    let mut at = flag(rt, s, c, b"trailing_one_bit")?;
-    for _ in 0..reader::rest(s, at.at) {
-        at = flag(rt, s, at, b"trailing_zero_bit")?;
+pub fn trailing_bits(l: &mut Listing<impl Print>) -> io::Result<()> {
+    l.flag(b"trailing_one_bit")?;
+    for _ in 0..l.peek().rest() {
+        l.flag(b"trailing_zero_bit")?;
     }
     Ok(())
 }

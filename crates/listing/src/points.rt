@@ -1,169 +1,91 @@
 // The operating points of 5.5.1, and 5.5.5 operating_parameters_info.
 use crate::frame::width;
-use crate::row::*;
-use bits::answer::Cursor;
+use crate::row::Listing;
 use sequence_reader::place;
 use std::io;
 
 fn operating_parameters_info(
-    rt: &impl Print,
-    s: &[u8],
-    c: Cursor,
-    n: u32,
+    l: &mut Listing<impl Print>,
+    delay_width: u32,
     i: usize,
-) -> io::Result<Cursor> {
-    let c = f_at(rt, s, c, n, b"decoder_buffer_delay", Index::At(i))?;
-    let c = f_at(rt, s, c, n, b"encoder_buffer_delay", Index::At(i))?;
-    f_at(rt, s, c, 1, b"low_delay_mode_flag", Index::At(i))
+) -> io::Result<()> {
+    l.f_at(delay_width, b"decoder_buffer_delay", i)?;
+    l.f_at(delay_width, b"encoder_buffer_delay", i)?;
+    l.flag_at(b"low_delay_mode_flag", i)
 }
 
-fn seq_tier(
-    rt: &impl Print,
-    s: &[u8],
-    c: Cursor,
-    seq_level_idx: u32,
-    i: usize,
-) -> io::Result<Cursor> {
+fn seq_tier(l: &mut Listing<impl Print>, seq_level_idx: u32, i: usize) -> io::Result<()> {
     if 7 < seq_level_idx {
-        return f_at(rt, s, c, 1, b"seq_tier", Index::At(i));
+        l.flag_at(b"seq_tier", i)
+    } else {
+        l.inferred_at(b"seq_tier", i, 0)
     }
-    inferred_at(rt, b"seq_tier", Index::At(i), 0)?;
-    Ok(c)
 }
 
 fn point_model(
-    rt: &impl Print,
-    s: &[u8],
-    c: Cursor,
-    has_model: bool,
-    present: bool,
-    n: u32,
+    l: &mut Listing<impl Print>,
+    n: &[u32; place::NUMBERS],
+    point: &[u32; place::POINT_NUMBERS],
     i: usize,
-) -> io::Result<Cursor> {
-    if !has_model {
-        inferred_at(rt, b"decoder_model_present_for_this_op", Index::At(i), 0)?;
-        return Ok(c);
+) -> io::Result<()> {
+    if n[place::DECODER_MODEL_INFO_PRESENT_FLAG] == 0 {
+        return l.inferred_at(b"decoder_model_present_for_this_op", i, 0);
     }
-    let c = f_at(
-        rt,
-        s,
-        c,
-        1,
-        b"decoder_model_present_for_this_op",
-        Index::At(i),
-    )?;
-    if present {
-        return operating_parameters_info(rt, s, c, n, i);
+    l.flag_at(b"decoder_model_present_for_this_op", i)?;
+    if point[place::DECODER_MODEL_PRESENT_FOR_THIS_OP] != 0 {
+        let delay_width = width(n[place::BUFFER_DELAY_LENGTH_MINUS_1]);
+        operating_parameters_info(l, delay_width, i)?;
     }
-    Ok(c)
+    Ok(())
 }
 
-fn point_delay(
-    rt: &impl Print,
-    s: &[u8],
-    c: Cursor,
-    has_delay: bool,
-    present: bool,
-    i: usize,
-) -> io::Result<Cursor> {
-    if !has_delay {
-        return Ok(c);
+fn point_delay(l: &mut Listing<impl Print>, is_present: bool, i: usize) -> io::Result<()> {
+    l.flag_at(b"initial_display_delay_present_for_this_op", i)?;
+    if is_present {
+        l.f_at(4, b"initial_display_delay_minus_1", i)?;
     }
-    let c = f_at(
-        rt,
-        s,
-        c,
-        1,
-        b"initial_display_delay_present_for_this_op",
-        Index::At(i),
-    )?;
-    if present {
-        return f_at(rt, s, c, 4, b"initial_display_delay_minus_1", Index::At(i));
-    }
-    Ok(c)
+    Ok(())
 }
 
 fn operating_point(
-    rt: &impl Print,
-    s: &[u8],
-    c: Cursor,
-    level: u32,
-    has_model: bool,
-    model_present: bool,
-    n: u32,
-    has_delay: bool,
-    delay_present: bool,
-    i: usize,
-) -> io::Result<Cursor> {
-    let c = f_at(rt, s, c, 12, b"operating_point_idc", Index::At(i))?;
-    let c = f_at(rt, s, c, 5, b"seq_level_idx", Index::At(i))?;
-    let c = seq_tier(rt, s, c, level, i)?;
-    let c = point_model(rt, s, c, has_model, model_present, n, i)?;
-    point_delay(rt, s, c, has_delay, delay_present, i)
-}
-
-// The points up to the one with the number `last`.
-fn operating_points(
-    rt: &impl Print,
-    s: &[u8],
-    c: Cursor,
-    last: u32,
+    l: &mut Listing<impl Print>,
     n: &[u32; place::NUMBERS],
-) -> io::Result<Cursor> {
-    let has_model = n[place::DECODER_MODEL_INFO_PRESENT_FLAG] != 0;
-    let delay_width = width(n[place::BUFFER_DELAY_LENGTH_MINUS_1]);
-    let has_delay = n[place::INITIAL_DISPLAY_DELAY_PRESENT_FLAG] != 0;
-    let mut p = c;
-    for i in 0..32 {
-        if i <= last as usize {
-            let at = place::OPERATING_POINTS + place::POINT_NUMBERS * i;
-            let model = n[at + place::DECODER_MODEL_PRESENT_FOR_THIS_OP] != 0;
-            let delay = n[at + place::INITIAL_DISPLAY_DELAY_PRESENT_FOR_THIS_OP] != 0;
-            let level = n[at + place::SEQ_LEVEL_IDX];
-            p = operating_point(
-                rt,
-                s,
-                p,
-                level,
-                has_model,
-                model,
-                delay_width,
-                has_delay,
-                delay,
-                i,
-            )?;
-        }
+    point: &[u32; place::POINT_NUMBERS],
+    i: usize,
+) -> io::Result<()> {
+    l.f_at(12, b"operating_point_idc", i)?;
+    l.f_at(5, b"seq_level_idx", i)?;
+    seq_tier(l, point[place::SEQ_LEVEL_IDX], i)?;
+    point_model(l, n, point, i)?;
+    if n[place::INITIAL_DISPLAY_DELAY_PRESENT_FLAG] != 0 {
+        let is_present = point[place::INITIAL_DISPLAY_DELAY_PRESENT_FOR_THIS_OP] != 0;
+        point_delay(l, is_present, i)?;
     }
-    Ok(p)
+    Ok(())
 }
 
 // Of the full header.
-pub fn points(
-    rt: &impl Print,
-    s: &[u8],
-    c: Cursor,
-    n: &[u32; place::NUMBERS],
-) -> io::Result<Cursor> {
-    let c = flag(rt, s, c, b"initial_display_delay_present_flag")?;
-    let c = f(rt, s, c, 5, b"operating_points_cnt_minus_1")?;
-    operating_points(rt, s, c, n[place::OPERATING_POINTS_CNT_MINUS_1], n)
+pub fn points(l: &mut Listing<impl Print>, n: &[u32; place::NUMBERS]) -> io::Result<()> {
+    l.flag(b"initial_display_delay_present_flag")?;
+    l.f(5, b"operating_points_cnt_minus_1")?;
+    let last = n[place::OPERATING_POINTS_CNT_MINUS_1] as usize;
+    let all = &n[place::OPERATING_POINTS..place::FRAME_WIDTH_BITS_MINUS_1];
+    let (all, _) = all.as_chunks::<{ place::POINT_NUMBERS }>();
+    for (i, point) in all.iter().take(last + 1).enumerate() {
+        operating_point(l, n, point, i)?;
+    }
+    Ok(())
 }
 
 // With the reduced header only the level of one point is coded.
-pub fn reduced_points(rt: &impl Print, s: &[u8], c: Cursor) -> io::Result<Cursor> {
-    inferred(rt, b"timing_info_present_flag", 0)?;
-    inferred(rt, b"decoder_model_info_present_flag", 0)?;
-    inferred(rt, b"initial_display_delay_present_flag", 0)?;
-    inferred(rt, b"operating_points_cnt_minus_1", 0)?;
-    inferred_at(rt, b"operating_point_idc", Index::At(0), 0)?;
-    let c = f_at(rt, s, c, 5, b"seq_level_idx", Index::At(0))?;
-    inferred_at(rt, b"seq_tier", Index::At(0), 0)?;
-    inferred_at(rt, b"decoder_model_present_for_this_op", Index::At(0), 0)?;
-    inferred_at(
-        rt,
-        b"initial_display_delay_present_for_this_op",
-        Index::At(0),
-        0,
-    )?;
-    Ok(c)
+pub fn reduced_points(l: &mut Listing<impl Print>) -> io::Result<()> {
+    l.inferred(b"timing_info_present_flag", 0)?;
+    l.inferred(b"decoder_model_info_present_flag", 0)?;
+    l.inferred(b"initial_display_delay_present_flag", 0)?;
+    l.inferred(b"operating_points_cnt_minus_1", 0)?;
+    l.inferred_at(b"operating_point_idc", 0, 0)?;
+    l.f_at(5, b"seq_level_idx", 0)?;
+    l.inferred_at(b"seq_tier", 0, 0)?;
+    l.inferred_at(b"decoder_model_present_for_this_op", 0, 0)?;
+    l.inferred_at(b"initial_display_delay_present_for_this_op", 0, 0)
 }

@@ -1,4 +1,5 @@
 // 5.9.11 loop_filter_params: its record, and what it goes by.
+ghost use Rattle.std.specs.Prelude.{◌≡◌, ◌||◌};
 
 // The deltas have 32 bits, so that the refusal of one says the width that the number needs.
 #[derive(Clone, Copy)]
@@ -17,6 +18,14 @@ pub struct LoopFilterContext {
     pub coded_lossless: bool,
     pub allow_intrabc: bool,
     pub planes: u32,
+}
+
+impl LoopFilterContext {
+    pub fn is_off(self) -> bool
+        ensures { result ≡ (self.coded_lossless || self.allow_intrabc) }
+    {
+        self.coded_lossless || self.allow_intrabc
+    }
 }
 
 // The most bits that the part takes, whatever its record and what it goes by: crates/room.

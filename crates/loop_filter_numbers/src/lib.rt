@@ -8,10 +8,14 @@ ghost use Rattle.parts.specs.Written.{Writes};
 ghost use Rattle.loop_filter_numbers.specs.Numbers.{loop_filter_walk};
 
 use crate::record::*;
-use bits::answer::Answer;
+use bits::answer::Refusal;
 use loop_filter::write::write_loop_filter_params;
 
-pub fn write_loop_filter_numbers(record: &[i32; 20], out: &mut [u8], place: u32) -> Answer
+pub fn write_loop_filter_numbers(
+    record: &[i32; 20],
+    out: &mut [u8],
+    place: u32,
+) -> Result<u32, Refusal>
     ensures { Writes (loop_filter_walk «record».now) place out.old result out.new }
 {
     write_loop_filter_params(

@@ -1,4 +1,4 @@
-// The record of the loop filter's parameters from its numbers, the context first.
+// The record of the loop filter's parameters from its numbers, the context first. (No `From`: neither the array nor the record is of this crate.)
 ghost use Rattle.std.specs.Prelude.{◌≡◌};
 ghost use Rattle.loop_filter_numbers.specs.Numbers.{loop_filter_context, loop_filter_params};
 
@@ -49,15 +49,12 @@ fn mode_deltas(n: &[i32; 20]) -> [i32; 2]
 pub fn loop_filter_params(n: &[i32; 20]) -> LoopFilterParams
     ensures { result ≡ loop_filter_params n.now }
 {
-    let loop_filter_level = levels(n);
-    let loop_filter_ref_deltas = ref_deltas(n);
-    let loop_filter_mode_deltas = mode_deltas(n);
     LoopFilterParams {
-        loop_filter_level,
+        loop_filter_level: levels(n),
         loop_filter_sharpness: natural(n, place::LOOP_FILTER_SHARPNESS),
         loop_filter_delta_enabled: flag(n, place::LOOP_FILTER_DELTA_ENABLED),
         loop_filter_delta_update: flag(n, place::LOOP_FILTER_DELTA_UPDATE),
-        loop_filter_ref_deltas,
-        loop_filter_mode_deltas,
+        loop_filter_ref_deltas: ref_deltas(n),
+        loop_filter_mode_deltas: mode_deltas(n),
     }
 }

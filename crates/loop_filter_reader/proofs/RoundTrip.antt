@@ -3,7 +3,7 @@
 use mathlib.Core.Path.{◌≡◌, refl}
 use mathlib.Core.List.{List, ◌∷◌}
 use mathlib.Core.Bool.{true}
-use Prim.Native.Nat.{ℕ, suc, ◌*◌, ◌-◌, ◌<◌, ◌^◌}
+use Prim.Native.Nat.{ℕ, suc, ◌*◌, ◌<◌, ◌^◌}
 use native.Mathlib.Omega.{arith}
 use borrow.Author.Tests.{lt-ltb, le-leb}
 use lib.IntN.{ℤ, pos, negsuc}
@@ -24,8 +24,7 @@ use Rattle.parts_reader.proofs.Refusing.{endings}
 use Rattle.parts_reader.proofs.Again.{longer_pieces, agains, via-again, array_again, inferred_signed-again}
 use Rattle.parts_reader.proofs.DeltasAgain.{delta-again}
 use Rattle.parts_reader.proofs.RoundTrip.{over, over_and_back}
-use Rattle.bits.specs.Answers.{value}
-use Rattle.bits.specs.declared.answer.Answer.TheVariants.{Done}
+use Rattle.std.specs.Prelude.{Ok}
 use Rattle.parts.specs.Written.{Writes}
 use Rattle.loop_filter.specs.declared.record.LoopFilterParams.{LoopFilterParams}
 use Rattle.loop_filter.specs.declared.record.LoopFilterContext.{LoopFilterContext}
@@ -107,8 +106,8 @@ pub loop_filter-over : (context : LoopFilterContext) (old : Deltas) → Over (lo
 loop_filter-over context old = over _ (loop_filter_law context old) (loop_filter-ends context old)
 
 -- in the words of the writer, which is lent none
-pub loop_filter_reads_back : (context : LoopFilterContext) (old : Deltas) (p : LoopFilterParams) (place : ℕ) (xs ys : List ℕ) (n : ℕ) → Writes ((loop_filter_params context no_old).enc p) place xs (Done n) ys
-    → read_part (loop_filter_params context old) place ys ≡ value ((loop_filter_params context old).coded p) (record { at = n })
+pub loop_filter_reads_back : (context : LoopFilterContext) (old : Deltas) (p : LoopFilterParams) (place : ℕ) (xs ys : List ℕ) (n : ℕ) → Writes ((loop_filter_params context no_old).enc p) place xs (Ok n) ys
+    → read_part (loop_filter_params context old) place ys ≡ Ok ((loop_filter_params context old).coded p, n)
 loop_filter_reads_back context old p place xs ys n g = (loop_filter-over context old).reads_back p place xs ys n (rw (old_unwritten context p old no_old) g)
 
 -- with old deltas that su(7) holds

@@ -1,8 +1,8 @@
 -- Where each parameter of the loop filter stands in the record's numbers, behind the context's; and the deltas that a frame goes by.
-use Rattle.std.specs.Prelude.{Bool, List, ℕ, ◌+◌, ℤ, pos}
+use Rattle.std.specs.Prelude.{Bool, false, List, ℕ, ◌+◌, ℤ, pos}
 use Rattle.bits.specs.Codec.{Codec}
 use Rattle.fill.specs.Fills.{same, natural, signed_bit, of, each, ◌▸◌}
-use Rattle.loop_filter.specs.LoopFilter.{Levels, Deltas, Rest, loop_filter_out, loop_filter_in, loop_filter_params}
+use Rattle.loop_filter.specs.LoopFilter.{Levels, Deltas, Rest, default_deltas, loop_filter_out, loop_filter_in, loop_filter_params}
 use Rattle.loop_filter.specs.declared.record.LoopFilterParams.{LoopFilterParams}
 use Rattle.loop_filter_numbers.specs.Numbers.{loop_filter_context}
 use Rattle.numbers.specs.Numbers as numbers
@@ -39,6 +39,10 @@ rest_place = number_at 7 natural ▸ number_at 8 signed_bit ▸ update_place
 
 unfoldable pub loop_filter_place : In LoopFilterParams
 loop_filter_place = of loop_filter_out loop_filter_in (levels_place ▸ rest_place)
+
+-- what is stored where the filter is off
+abbrev pub off : Levels × Rest
+off = ((0, (0, (0, 0))), (0, (false, (false, (default_deltas, (pos 0, pos 0))))))
 
 -- the table by the context that stands in the numbers, and by the deltas before
 abbrev pub loop_filter_by : List ℤ → List ℤ → Codec LoopFilterParams

@@ -10,7 +10,7 @@ ghost use Rattle.numbers.specs.Held.{int16};
 pub fn number(n: &[i32], i: usize) -> i32
     ensures { result ≡ signed_at n.now i }
 {
-    if i < n.len() { n[i] } else { 0 }
+    n.get(i).copied().unwrap_or(0)
 }
 
 pub fn flag(n: &[i32], i: usize) -> bool
@@ -22,22 +22,11 @@ pub fn flag(n: &[i32], i: usize) -> bool
 pub fn natural(n: &[i32], i: usize) -> u32
     ensures { result ≡ natural_at n.now i }
 {
-    let x = number(n, i);
-    if x < 0 {
-        return 4294967295;
-    }
-    x as u32
+    u32::try_from(number(n, i)).unwrap_or(u32::MAX)
 }
 
 pub fn int16(n: &[i32], i: usize) -> i16
     ensures { result ≡ int16 (signed_at n.now i) }
 {
-    let x = number(n, i);
-    if x < -32768 {
-        return -32768;
-    }
-    if 32767 < x {
-        return 32767;
-    }
-    x as i16
+    number(n, i).clamp(-32768, 32767) as i16
 }

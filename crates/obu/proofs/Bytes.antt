@@ -1,18 +1,16 @@
 -- Bytes for bits, and whole bytes stored.
 use mathlib.Core.Path.{◌≡◌, refl, sym, ◌∙◌, ap, subst}
 use mathlib.Core.List.{List, [], ◌∷◌, ◌++◌}
-use Prim.Native.Nat.{ℕ, zero, suc, ◌+◌, ◌-◌, ◌*◌, ◌^◌, ◌/◌, ◌%◌, ◌<◌, ◌≤◌}
+use Prim.Native.Nat.{ℕ, zero, suc, ◌+◌, ◌*◌, ◌^◌, ◌<◌, ◌≤◌}
 use native.Mathlib.Omega.{arith}
-use lib.ListN.{length, get_or, set, length-append, take, drop, take-append-drop, length-drop}
-use lib.Seq.{take_at, drop_at, length-take-le, append_snoc, get_or-append_seam, set-append_seam}
+use lib.ListN.{length, get_or, take, drop, take-append-drop, length-drop}
+use lib.Seq.{sets-eq, take_at, drop_at, length-take-le}
 use lib.Dec.{lit<}
 use Rattle.bits.specs.Bits.{Bits, to_bits, from_bits, bits_of, put}
-use Rattle.writer.specs.Blend.{blend}
 use Rattle.bits.specs.Codec.{nil}
 use Rattle.bits.proofs.Numbers.{length-to_bits, from-to_fits, to-from, from_lt}
-use Rattle.bits.proofs.Storing.{put_append}
-use Rattle.writer.proofs.Chunk.{stores_all, stores_on, stores_end}
-use Rattle.bits.proofs.Places.{length-bits_of}
+use Rattle.writer.proofs.Windows.{put_bytes}
+use Rattle.bits.proofs.Places.{length-bits_of, end_is}
 use Rattle.obu.specs.Demand3.{AreBytes}
 
 -- the bytes of m times eight bits
@@ -59,36 +57,16 @@ bits_of-same xs ys X Y e =
     let n : length xs ≡ length ys = omega (arith, length-bits_of xs, length-bits_of ys, ap length e) in
     sym (pack_bits_of xs X) ∙ rw (n, e) (pack_bits_of ys Y)
 
--- Whole bytes stored: one, ..
-blend_all : (x e : ℕ) → x < 256 → e < 256 → blend x 8 0 e ≡ e
-unfolding blend
-blend_all x e h k = omega arith
-
-put_byte : (xs : List ℕ) (k e : ℕ) → k < 65536 → get_or xs k 0 < 256 → e < 256 → put xs (k * 8) (to_bits 8 e) ≡ set xs k e
-put_byte xs k e l h b =
-    let i : k * 8 / 8 ≡ k = omega arith in
-    let d : 8 - k * 8 % 8 - 8 ≡ 0 = omega arith in
-    let s = stores_on (stores_all {xs = xs} {at = k * 8} {n = 8} {v = e} (lit< tt)) 8 e (omega arith) (omega arith) (omega arith) (omega arith) refl in
-    sym (stores_end s (omega arith)) ∙ rw (i, d, blend_all (get_or xs k 0) e h b)
-
--- .. and all of them, behind what stands before them
-put_on : (pre es post : List ℕ) → AreBytes es → AreBytes post → length es ≤ length post → length pre + length post ≤ 65536
-    → put (pre ++ post) (length pre * 8) (bits_of es) ≡ pre ++ (es ++ drop (length es) post)
-unfolding bits_of put
-put_on pre [] post E P h l = refl
-put_on pre (e ∷ es) [] E P h l = absurd (omega arith)
-put_on pre (e ∷ es) (x ∷ post) E P h l =
-    let n : length (pre ++ (e ∷ [])) ≡ length pre + 1 = length-append pre (e ∷ []) in
-    let a : put (pre ++ x ∷ post) (length pre * 8) (to_bits 8 e) ≡ (pre ++ (e ∷ [])) ++ post =
-    put_byte (pre ++ x ∷ post) (length pre) e (omega arith) (rw (get_or-append_seam pre x post 0) P.0) E.0 ∙ set-append_seam pre x post e ∙ sym (append_snoc pre e post) in
-    let m : length pre * 8 + length (to_bits 8 e) ≡ length (pre ++ (e ∷ [])) * 8 = rw (length-to_bits 8 e, n) (omega arith) in
-    put_append (pre ++ x ∷ post) (length pre * 8) (to_bits 8 e) (bits_of es)
-    ∙ rw (a, m) (put_on (pre ++ (e ∷ [])) es post E.1 P.1 (omega arith) (omega arith))
-    ∙ append_snoc pre e (es ++ drop (length es) post)
+each : (xs : List ℕ) → AreBytes xs → (k : ℕ) → get_or xs k 0 < 256
+each [] X k = lit< tt
+each (x ∷ xs) X zero = X.0
+each (x ∷ xs) X (suc k) = each xs X.1 k
 
 -- Bytes stored from the start on stand there, and every byte behind them is kept.
 pub put-bytes : (xs es : List ℕ) → AreBytes es → AreBytes xs → length es ≤ length xs → length xs ≤ 65536 → put xs 0 (bits_of es) ≡ es ++ drop (length es) xs
-put-bytes xs es E X h l = put_on [] es xs E X h (omega arith)
+put-bytes xs es E X h l =
+    let z : 0 + length es ≡ length es = omega arith in
+    put_bytes es xs 0 (omega (arith, end_is xs)) (each es E) (each xs X) ∙ rw z at (sets-eq es xs 0 (omega arith))
 
 pub take-put-bytes : (xs es : List ℕ) → AreBytes es → AreBytes xs → length es ≤ length xs → length xs ≤ 65536 → take (length es) (put xs 0 (bits_of es)) ≡ es
 take-put-bytes xs es E X h l = rw (put-bytes xs es E X h l) (take_at es (drop (length es) xs) (length es) refl)

@@ -9,7 +9,7 @@ use Rattle.bits.specs.Bits.{bits_of, to_bits, bit_at}
 use Rattle.bits.specs.Walk.{wrote, run, join, bound}
 use Rattle.bits.specs.Codec.{◌▷◌, choose, via, allowed, f, flag, zeros, absent, merged, nil}
 use Rattle.bits.specs.Codes.{leb128, leb_step, too_long}
-use Rattle.bits.specs.declared.answer.Answer.{Answer}
+use Rattle.bits.specs.Written.{Answer}
 use Rattle.bits.proofs.Counting.{Few, few_by}
 use Rattle.obu.specs.declared.header.ObuHeader.{ObuHeader}
 use Rattle.obu.specs.Header.{expected_type, obu_extension_header, header_end, header_table, obu_header}

@@ -15,7 +15,7 @@ use Rattle.bits.specs.declared.answer.Refusal.TheVariants.{Long}
 use Rattle.bits.proofs.Laws.{stop-got, got-value}
 use Rattle.bits.proofs.Places.{length-bits_of}
 use Rattle.bits.proofs.Counting.{Few}
-use Rattle.bits.specs.declared.answer.Answer.TheVariants.{Done}
+use Rattle.std.specs.Prelude.{Ok}
 use Rattle.obu.specs.declared.header.ObuHeader.{ObuHeader}
 use Rattle.obu.specs.Obu.{Spelling, obu}
 use Rattle.bits.specs.Written.{whole_bytes}
@@ -36,7 +36,7 @@ short_enough xs g a rest h = go (ltb 65536 (length xs)) refl h
 
 -- a walk that comes to whole bytes writes them
 pub gives : (w : Walk) (es buffer : List ℕ) → run w ≡ wrote (bits_of es) → AreBytes es → AreBytes buffer → length es ≤ length buffer → length buffer ≤ 65536
-    → written w buffer ≡ record { answer = Done (length es); bytes = es ++ drop (length es) buffer }
+    → written w buffer ≡ record { answer = Ok (length es); bytes = es ++ drop (length es) buffer }
 gives w es buffer e E B h l =
     let n : whole_bytes (length (bits_of es)) ≡ length es = rw (length-bits_of es) (omega arith) in
     fits w buffer l (bits_of es) e (rw n h) ∙ rw (n, put-bytes buffer es E B h l)

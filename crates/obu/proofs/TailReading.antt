@@ -1,25 +1,24 @@
 -- How the size and the trailing bits are read: the number of the bytes that follow, and a scan by bytes.
 use mathlib.Core.Path.{◌≡◌, refl, sym, ◌∙◌, ap}
 use mathlib.Core.List.{List, [], ◌∷◌, ◌++◌}
-use mathlib.Core.Bool.{Bool, true, false, ◌&&◌, not}
+use mathlib.Core.Bool.{Bool, true, false, ◌&&◌}
 use Prim.Native.Nat.{ℕ, zero, suc, ◌+◌, ◌-◌, ◌*◌, ◌^◌, ◌/◌, ◌%◌, ◌<◌, ◌≤◌, min}
 use native.Mathlib.Omega.{arith}
 use native.Mathlib.Nat.{mod-lt}
 use lib.Pow.{mod-pow-add, pow_pos, pow_mono}
 use lib.ListN.{length, get_or, replicate}
 use lib.Dec.{eqb, lit<}
-use borrow.Author.Tests.{eq-eqb, ne_eqb, eqb-true, eqb-false, not-true, not-false}
+use borrow.Author.Tests.{eq-eqb, ne_eqb, eqb-true, eqb-false}
+use Rattle.std.specs.Prelude.{Result, Ok, Err, IsErrAnd}
 use Rattle.bits.specs.Bits.{Bits, bit_at, to_bits, from_bits, from, end, limit, weight}
-use Rattle.bits.specs.Codec.{nil}
+use Rattle.bits.specs.Codec.{Nil, nil}
 use Rattle.bits.specs.Codes.{leb128}
-use Rattle.bits.specs.Answers.{why, found, Moved, Said, said, step, size}
-use Rattle.bits.specs.declared.answer.Cursor.{Cursor}
+use Rattle.bits.specs.Answers.{found, Moved}
 use Rattle.bits.specs.declared.answer.Refusal.{Refusal}
 use Rattle.bits.specs.declared.answer.Refusal.TheVariants.{Size, Trailing}
-use Rattle.bits.specs.declared.answer.GotSize.{GotSize}
-use Rattle.bits.specs.declared.answer.GotSize.TheVariants as Z
-use Rattle.bits.specs.declared.answer.Step.TheVariants as S
-use Rattle.bits.proofs.Reading.{is, is_not}
+use Rattle.reader.specs.declared.BitReader.{BitReader}
+use Rattle.reader.specs.Reading.{Said, said}
+use Rattle.reader.proofs.Reading.{exit, stops}
 use Rattle.bits.proofs.Numbers.{from-to, to_bits_mod}
 use Rattle.bits.proofs.CodeLaws.{no_bits}
 use Rattle.bits.proofs.Places.{length_from, from_end, from_chunk, weight_pow, end_is}
@@ -88,6 +87,8 @@ module _ (x k : ℕ) (l : k < 8) where
       let d : 2 ^ (7 - k) * 2 ≡ 2 ^ suc (7 - k) = omega arith in
       rw (one_is, s, trailing_number (7 - k) x, d)
 
+pub ruleset ones = (one_some, one_few, one_last)
+
 -- How many bytes have places, and how many follow one
 pub reach_is : (xs : List ℕ) (m : ℕ) → m ≡ end xs - 0 → m / 8 ≡ min (length xs) (limit / 8)
 reach_is xs m e = omega (arith, end_is xs)
@@ -109,25 +110,35 @@ module _ (xs : List ℕ) (at size left : ℕ) (e : left ≡ end xs - at) where
   pub follow_no : (left % 8 ≡ 0 → ⊥) → false ≡ eqb (size * 8) (length (from xs at))
   follow_no h = sym (ne_eqb (size * 8) (length (from xs at)) (λ z. h (omega (arith, here))))
 
+pub ruleset follows = (follow_yes, follow_no)
+
 -- The size
-module _ (sized : Bool) {xs : List ℕ} {c : Cursor} where
-  pub size_none : not sized ≡ true → Said step (read_size sized) xs c (S.Next c)
+module _ (sized : Bool) {p : BitReader} where
+  pub size_none : sized ≡ false → Said (read_size sized) p p (Ok nil)
   unfolding read_size found Moved
-  size_none h = let e = not-true sized h in said (record { finds = rw e; moves = refl })
+  size_none e = said refl (record { finds = rw e; moves = refl })
 
-module _ (sized : Bool) {xs : List ℕ} {c : Cursor} {g : GotSize} (h : not sized ≡ false) (s : Said size (leb128 8).dec xs c g) where
-  pub size-stop : {y z : Refusal} → g ≡ Z.Refused z → y ≡ why (size.view g) → Said step (read_size sized) xs c (S.Refused y)
-  unfolding read_size found Moved
-  size-stop {y} {z} e w = let b = not-false sized h in let r = is_not {z = z} s e w in said (record { finds = rw (b, r.finds); moves = nil })
+module _ (sized : Bool) {p q : BitReader} (e : sized ≡ true) where
+  pub size-stop : {y : Refusal} {r : Result Nil Refusal} → Said (leb128 8).dec p q (Err y) → IsErrAnd r (λ z. z ≡ y) → Said (read_size sized) p q r
+  unfolding read_size
+  size-stop s i = rw (exit i, e) (stops _ s (λ bs h. rw h refl))
 
-  module _ {n : ℕ} {q : Cursor} {t : Bool} (e : g ≡ Z.Value n q) (w : t ≡ eqb (n * 8) (length (from xs q.at))) where
-    pub size-right : t ≡ true → Said step (read_size sized) xs c (S.Next q)
+  module _ {n : ℕ} (s : Said (leb128 8).dec p q (Ok n)) {t : Bool} (w : t ≡ eqb (n * 8) (length (from q.bytes.now q.at))) where
+    pub size-right : t ≡ true → Said (read_size sized) p q (Ok nil)
     unfolding read_size found Moved
-    size-right k = let b = not-false sized h in let r = is {a = n} {q = q} s e in said (record { finds = rw (b, r.finds, sym w ∙ k); moves = r.moves })
+    size-right k = go s
+      where
+        go : Said (leb128 8).dec p q (Ok n) → Said (read_size sized) p q (Ok nil)
+        go (said b r) = let u : t ≡ eqb (n * 8) (length (from p.bytes.now q.at)) = rw b at w in said b (record { finds = rw (e, r.finds, sym u ∙ k); moves = r.moves })
 
-    pub size_wrong : t ≡ false → Said step (read_size sized) xs c (S.Refused Size)
+    pub size_wrong : t ≡ false → Said (read_size sized) p q (Err Size)
     unfolding read_size found Moved
-    size_wrong k = let b = not-false sized h in let r = is {a = n} {q = q} s e in said (record { finds = rw (b, r.finds, sym w ∙ k); moves = nil })
+    size_wrong k = go s
+      where
+        go : Said (leb128 8).dec p q (Ok n) → Said (read_size sized) p q (Err Size)
+        go (said b r) = let u : t ≡ eqb (n * 8) (length (from p.bytes.now q.at)) = rw b at w in said b (record { finds = rw (e, r.finds, sym u ∙ k); moves = nil })
+
+pub ruleset sizes = (size_none, size-stop, size-right, size_wrong)
 
 -- The scan: a byte, and the bytes behind it
 module _ (xs : List ℕ) (n i : ℕ) (e : n ≡ min (length xs) (limit / 8)) where
@@ -154,6 +165,8 @@ module _ (xs : List ℕ) (n i : ℕ) (e : n ≡ min (length xs) (limit / 8)) whe
   zero_all h true s = zero-end h ∙ s
   zero_all h false s = s
 
+pub ruleset scans = (zero_next, zero_all)
+
 -- a byte more
 pub still_yes : (b : Bool) (x : ℕ) → x ≡ 0 → b ≡ (b && eqb x 0)
 still_yes true x h = sym (eq-eqb x 0 h)
@@ -162,6 +175,8 @@ still_yes false x h = refl
 pub still_no : (b : Bool) (x : ℕ) → (x ≡ 0 → ⊥) → false ≡ (b && eqb x 0)
 still_no true x h = sym (ne_eqb x 0 h)
 still_no false x h = refl
+
+pub ruleset stills = (still_yes, still_no)
 
 -- The trailing bits: the rest of a byte, and the bytes behind it
 trailing_append : (j x : ℕ) (ys : Bits) → is_trailing (to_bits (suc j) x ++ ys) ≡ (is_trailing (to_bits (suc j) x) && all_zero ys)
@@ -172,35 +187,37 @@ trailing_append j x ys = go (bit_at j x)
     go true = all_append (to_bits j x) ys
     go false = refl
 
-module _ (xs : List ℕ) (c : Cursor) (n : ℕ) (e : n ≡ min (length xs) (limit / 8)) where
-  refuse : is_trailing (from xs c.at) ≡ false → Said step read_trailing xs c (S.Refused Trailing)
+module _ (p : BitReader) (n : ℕ) (e : n ≡ min (length p.bytes.now) (limit / 8)) where
+  refuse : is_trailing (from p.bytes.now p.at) ≡ false → Said read_trailing p p (Err Trailing)
   unfolding read_trailing found Moved
-  refuse h = said (record { finds = rw h; moves = nil })
+  refuse h = said refl (record { finds = rw h; moves = nil })
 
-  pub tail_none : n ≤ c.at / 8 → Said step read_trailing xs c (S.Refused Trailing)
+  pub tail_none : n ≤ p.at / 8 → Said read_trailing p p (Err Trailing)
   unfolding is_trailing
-  tail_none h = refuse (rw (from_end xs c.at (omega (arith, ends xs n e))))
+  tail_none h = refuse (rw (from_end p.bytes.now p.at (omega (arith, ends p.bytes.now n e))))
 
-  module _ (l : c.at / 8 < n) (t : Bool) (p : t ≡ is_trailing (to_bits (8 - c.at % 8) (get_or xs (c.at / 8) 0))) where
-    split : is_trailing (from xs c.at) ≡ (t && all_zero (from xs ((c.at / 8 + 1) * 8)))
+  module _ (l : p.at / 8 < n) (t : Bool) (f : t ≡ is_trailing (to_bits (8 - p.at % 8) (get_or p.bytes.now (p.at / 8) 0))) where
+    split : is_trailing (from p.bytes.now p.at) ≡ (t && all_zero (from p.bytes.now ((p.at / 8 + 1) * 8)))
     split =
-        let x = get_or xs (c.at / 8) 0 in
+        let x = get_or p.bytes.now (p.at / 8) 0 in
         let d : x / 2 ^ 0 ≡ x = omega arith in
-        let k : 8 - c.at % 8 ≡ suc (7 - c.at % 8) = omega arith in
-        let m : c.at + (8 - c.at % 8) ≡ (c.at / 8 + 1) * 8 = omega arith in
-        let q : from xs c.at ≡ to_bits (8 - c.at % 8) (x / 2 ^ 0) ++ from xs (c.at + (8 - c.at % 8)) =
-        from_chunk xs c.at (8 - c.at % 8) 0 (omega (arith, ends xs n e)) (omega arith) in
-        rw (q, d, m, p, k) (trailing_append (7 - c.at % 8) x (from xs ((c.at / 8 + 1) * 8)))
+        let k : 8 - p.at % 8 ≡ suc (7 - p.at % 8) = omega arith in
+        let m : p.at + (8 - p.at % 8) ≡ (p.at / 8 + 1) * 8 = omega arith in
+        let q : from p.bytes.now p.at ≡ to_bits (8 - p.at % 8) (x / 2 ^ 0) ++ from p.bytes.now (p.at + (8 - p.at % 8)) =
+        from_chunk p.bytes.now p.at (8 - p.at % 8) 0 (omega (arith, ends p.bytes.now n e)) (omega arith) in
+        rw (q, d, m, f, k) (trailing_append (7 - p.at % 8) x (from p.bytes.now ((p.at / 8 + 1) * 8)))
 
-    pub tail_broken : t ≡ false → Said step read_trailing xs c (S.Refused Trailing)
+    pub tail_broken : t ≡ false → Said read_trailing p p (Err Trailing)
     tail_broken h = refuse (split ∙ rw h)
 
-    module _ (h : t ≡ true) (u : Bool) (z : u ≡ all_zero (from xs ((c.at / 8 + 1) * 8))) where
-      pub tail-padded : u ≡ false → Said step read_trailing xs c (S.Refused Trailing)
+    module _ (h : t ≡ true) (u : Bool) (z : u ≡ all_zero (from p.bytes.now ((p.at / 8 + 1) * 8))) where
+      pub tail-padded : u ≡ false → Said read_trailing p p (Err Trailing)
       tail-padded k = refuse (split ∙ rw (h, ← z, k))
 
-      pub tail_met : u ≡ true → Said step read_trailing xs c (S.Next (record { at = n * 8 }))
+      pub tail_met : u ≡ true → Said read_trailing p (record { bytes = p.bytes; at = n * 8 }) (Ok nil)
       unfolding read_trailing found Moved
       tail_met k =
-          let b : is_trailing (from xs c.at) ≡ true = split ∙ rw (h, ← z, k) in
-          said (record { finds = rw (b, from_end xs (n * 8) (omega (arith, ends xs n e))); moves = omega (arith, ends xs n e) })
+          let b : is_trailing (from p.bytes.now p.at) ≡ true = split ∙ rw (h, ← z, k) in
+          said refl (record { finds = rw (b, from_end p.bytes.now (n * 8) (omega (arith, ends p.bytes.now n e))); moves = omega (arith, ends p.bytes.now n e) })
+
+pub ruleset tails = (tail_none, tail_broken, tail-padded, tail_met)

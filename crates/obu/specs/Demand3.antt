@@ -1,11 +1,10 @@
 -- Demand 3: what is promised of up to 65,536 bytes, given to the reader as one OBU, whoever made them. The OBU's table c says how its record is
 -- written and read, which of its fields are coded, and what spells it.
-use Rattle.std.specs.Prelude.{◌≡◌, List, [], ◌∷◌, ◌++◌, cond, ℕ, ◌<◌, ◌≤◌, length, drop, ltb}
+use Rattle.std.specs.Prelude.{◌≡◌, List, [], ◌∷◌, ◌++◌, cond, ℕ, ◌<◌, ◌≤◌, length, drop, ltb, Ok}
 use Rattle.bits.specs.Bits.{Bits, bits_of}
 use Rattle.bits.specs.Walk.{done, run}
 use Rattle.bits.specs.Codec.{Codec, Got, got, stop, Nil}
 use Rattle.bits.specs.declared.answer.Refusal.TheVariants.{Long}
-use Rattle.bits.specs.declared.answer.Answer.TheVariants.{Done}
 use Rattle.obu.specs.Writer.{written}
 
 -- numbers that are bytes
@@ -31,7 +30,7 @@ module _ {A : Type 0} (c : Codec A) where
   -- written with room enough, the record gives es: it stands at the buffer's start, its length is the answer, and every byte beyond is kept
   abbrev pub Gives : A → List ℕ → Type 0
   Gives a es = (buffer : List ℕ) → AreBytes buffer → length es ≤ length buffer → length buffer ≤ 65536
-      → written (c.enc a) buffer ≡ record { answer = Done (length es); bytes = es ++ drop (length es) buffer }
+      → written (c.enc a) buffer ≡ record { answer = Ok (length es); bytes = es ++ drop (length es) buffer }
 
   -- es is the one shortest spelling of the record
   pub record Shortest (a : A) (es : List ℕ) : Type 0 where

@@ -1,7 +1,6 @@
 pub mod Header
 pub mod Framing
 pub mod Obu
-pub mod Answers
 pub mod Writer
 pub mod Delimiter
 pub mod Demand3

@@ -4,21 +4,17 @@ ghost use Rattle.obu.specs.Writer.{verdict};
 
 use bits::answer::*;
 
-// The answer, from the last step of a walk that leaves the slice alone and the length of the slice: only where it is `Done` is the slice written.
-pub fn verdict(s: Step, len: usize) -> Answer
-    ensures { result ≡ verdict s len }
+// The answer, from that of a walk that leaves the slice alone, the bits that it came to and the length of the slice: only where it is `Ok` is the slice written.
+pub fn verdict(walk: Result<(), Refusal>, bits: usize, len: usize) -> Result<u32, Refusal>
+    ensures { result ≡ verdict walk bits len }
 {
     if 65536 < len {
-        return Answer::Refused(Refusal::Long);
+        return Err(Refusal::Long);
     }
-    match s {
-        Step::Refused(r) => Answer::Refused(r),
-        Step::Next(c) => {
-            let needed = c.at / 8 + (c.at % 8 + 7) / 8;
-            if len < needed {
-                return Answer::Refused(Refusal::Short(capped(needed)));
-            }
-            Answer::Done(capped(needed))
-        }
+    walk?;
+    let needed = bits / 8 + (bits % 8 + 7) / 8;
+    if len < needed {
+        return Err(Refusal::Short(capped(needed)));
     }
+    Ok(capped(needed))
 }

@@ -1,6 +1,6 @@
 // The temporal delimiter (5.6).
 ghost use Rattle.std.specs.Prelude.{◌≤◌, length};
-ghost use Rattle.bits.specs.Walk.{Walked};
+ghost use Rattle.writer.specs.Walked.{Walked};
 ghost use Rattle.obu.specs.Writer.{Writes};
 ghost use Rattle.obu.specs.Delimiter.{temporal_delimiter, octets, delimiter_bytes, IsDelimiter, Tells};
 
@@ -8,38 +8,28 @@ use crate::answer::verdict;
 use crate::header::ObuHeader;
 use crate::write::*;
 use bits::answer::*;
+use writer::BitWriter;
 
 // Its walk: a header of type 2 and, if flagged, a size of 0.
-fn temporal_delimiter(out: &mut [u8], c: Cursor, header: ObuHeader) -> Step
-    ensures { Walked (temporal_delimiter header) c out.old result out.new }
+fn temporal_delimiter(w: &mut BitWriter, header: ObuHeader) -> Result<(), Refusal>
+    ensures { Walked (temporal_delimiter header) w.old w.new result }
 {
-    let s = obu_header(out, c, header, 2);
-    let Step::Next(c) = s else {
-        return s;
-    };
-    obu_size(out, c, header.has_size_field, 0)
+    obu_header(w, header, 2)?;
+    obu_size(w, header.has_size_field, 0)
 }
 
 // A byte string, written at the start of `out`.
-fn write_string(string: &[u8], out: &mut [u8]) -> Answer
+fn write_string(string: &[u8], out: &mut [u8]) -> Result<u32, Refusal>
     requires { length string.now ≤ 65536 }
     ensures { Writes (octets string.now) out.old result out.new }
 {
-    let answer = verdict(
-        Step::Next(Cursor {
-            at: string.len() * 8,
-        }),
-        out.len(),
-    );
-    let Answer::Done(_) = answer else {
-        return answer;
-    };
+    let count = verdict(Ok(()), string.len() * 8, out.len())?;
     bits::slice::copy(string, out);
-    answer
+    Ok(count)
 }
 
 // The delimiter without extension, a byte string.
-fn write_plain(has_size_field: bool, out: &mut [u8]) -> Answer
+fn write_plain(has_size_field: bool, out: &mut [u8]) -> Result<u32, Refusal>
     ensures { Writes (octets (delimiter_bytes has_size_field)) out.old result out.new }
 {
     if has_size_field {
@@ -49,19 +39,20 @@ fn write_plain(has_size_field: bool, out: &mut [u8]) -> Answer
 }
 
 // The temporal delimiter, written at the start of `out`.
-pub fn write_temporal_delimiter(header: ObuHeader, out: &mut [u8]) -> Answer
+pub fn write_temporal_delimiter(header: ObuHeader, out: &mut [u8]) -> Result<u32, Refusal>
     ensures { Writes (temporal_delimiter header) out.old result out.new }
 {
     if header.obu_type == 2 && !header.extension_flag {
         return write_plain(header.has_size_field, out);
     }
-    let s = temporal_delimiter(&mut out[0..0], Cursor { at: 0 }, header);
-    let answer = verdict(s, out.len());
-    let Answer::Done(_) = answer else {
-        return answer;
+    let mut none = BitWriter {
+        out: &mut [],
+        at: 0,
     };
-    temporal_delimiter(out, Cursor { at: 0 }, header);
-    answer
+    let walk = temporal_delimiter(&mut none, header);
+    let count = verdict(walk, none.at, out.len())?;
+    temporal_delimiter(&mut BitWriter { out, at: 0 }, header)?;
+    Ok(count)
 }
 
 // Whether the bytes are the temporal delimiter without extension.

@@ -1,178 +1,126 @@
 // 5.3 read: the header, the size, and the trailing bits.
+#![tactic(auto, using(crate::proofs::HeaderReading::header_readings))]
+
 ghost use Rattle.std.specs.Prelude.{◌≡◌, min, ◌-◌, ◌*◌, ◌/◌, ◌<◌, length, eqb, ◌&&◌};
 ghost use Rattle.bits.specs.Bits.{limit, from, to_bits};
 ghost use Rattle.bits.specs.Codec.{zeros};
-ghost use Rattle.bits.specs.Answers.{why, Said, Completes};
-ghost use Rattle.bits.specs.Answers as form;
-ghost use Rattle.obu.specs.Answers.{header};
+ghost use Rattle.reader.specs.Reading.{Said, Completes};
 ghost use Rattle.obu.specs.Header.{expected_type, obu_extension_header, header_with, header_end, end_with, obu_header};
 ghost use Rattle.obu.specs.Framing.{read_size, all_zero, is_trailing, read_trailing};
 
 use crate::header::ObuHeader;
-use bits::answer::*;
+use bits::answer::{LIMIT, Refusal};
 use bits::element::OBU_TYPE;
-use reader::*;
-
-// A header was read, and the place behind it.
-#[derive(Clone, Copy)]
-pub enum GotHeader {
-    Value(ObuHeader, Cursor),
-    Refused(Refusal),
-}
-
-pub fn why_header(g: GotHeader) -> Refusal
-    ensures { result ≡ why (header.view g) }
-{
-    match g {
-        GotHeader::Refused(r) => r,
-        GotHeader::Value(_, _) => Refusal::Ends,
-    }
-}
+use reader::BitReader;
 
 // So many reserved bits, all 0; a width over 32 counts as 32.
-fn zeros(s: &[u8], c: Cursor, width: u32) -> Step
-    ensures { Said form.step (zeros (min width 32)).dec s.now c result }
+fn zeros(r: &mut BitReader, width: u32) -> Result<(), Refusal>
+    ensures { Said (zeros (min width 32)).dec r.old r.new result }
 {
-    let g = f(s, c, width);
-    let GotNumber::Value(v, c) = g else {
-        return Step::Refused(why_number(g));
-    };
-    if v == 0 {
-        return Step::Next(c);
+    if r.f(width)? == 0 {
+        return Ok(());
     }
-    Step::Refused(Refusal::Reserved)
+    Err(Refusal::Reserved)
 }
 
 // obu_type, which must be t.
-fn expected_type(s: &[u8], c: Cursor, t: u32) -> GotNumber
-    ensures { Said form.number (expected_type t).dec s.now c result }
+fn expected_type(r: &mut BitReader, t: u32) -> Result<u32, Refusal>
+    ensures { Said (expected_type t).dec r.old r.new result }
 {
-    let g = f(s, c, 4);
-    let GotNumber::Value(v, c) = g else {
-        return g;
-    };
+    let v = r.f(4)?;
     if v == t {
-        return GotNumber::Value(v, c);
+        return Ok(v);
     }
-    GotNumber::Refused(Refusal::Inconsistent(OBU_TYPE, 0))
+    Err(Refusal::Inconsistent(OBU_TYPE, 0))
 }
 
 // 5.3.3, the last of a header.
+#[tactic(auto, using(reader::proofs::Reading::readings), unfolding(crate::specs::Header::obu_extension_header))]
+#[inline(always)]
 fn obu_extension_header(
-    s: &[u8],
-    c: Cursor,
+    r: &mut BitReader,
     obu_type: u32,
     extension_flag: bool,
     has_size_field: bool,
-) -> GotHeader
-    ensures { Completes header (header_with obu_type extension_flag has_size_field) obu_extension_header s.now c result }
+) -> Result<ObuHeader, Refusal>
+    ensures { Completes (header_with obu_type extension_flag has_size_field) obu_extension_header r.old r.new result }
 {
-    let g = f(s, c, 3);
-    let GotNumber::Value(temporal_id, c) = g else {
-        return GotHeader::Refused(why_number(g));
-    };
-    let g = f(s, c, 2);
-    let GotNumber::Value(spatial_id, c) = g else {
-        return GotHeader::Refused(why_number(g));
-    };
-    let z = zeros(s, c, 3);
-    let Step::Next(c) = z else {
-        return GotHeader::Refused(why_step(z));
-    };
-    GotHeader::Value(
-        ObuHeader {
-            obu_type,
-            extension_flag,
-            has_size_field,
-            temporal_id,
-            spatial_id,
-        },
-        c,
-    )
+    let temporal_id = r.f(3)?;
+    let spatial_id = r.f(2)?;
+    zeros(r, 3)?;
+    Ok(ObuHeader {
+        obu_type,
+        extension_flag,
+        has_size_field,
+        temporal_id,
+        spatial_id,
+    })
 }
 
 // The header from obu_has_size_field on.
-fn header_end(s: &[u8], c: Cursor, obu_type: u32, extension_flag: bool) -> GotHeader
-    ensures { Completes header (end_with obu_type extension_flag) (header_end extension_flag) s.now c result }
+#[tactic(auto, using(reader::proofs::Reading::readings), unfolding(crate::specs::Header::header_end))]
+#[inline(always)]
+fn header_end(r: &mut BitReader, obu_type: u32, extension_flag: bool) -> Result<ObuHeader, Refusal>
+    ensures { Completes (end_with obu_type extension_flag) (header_end extension_flag) r.old r.new result }
 {
-    let b = flag(s, c);
-    let GotFlag::Value(has_size_field, c) = b else {
-        return GotHeader::Refused(why_flag(b));
-    };
-    let z = zeros(s, c, 1);
-    let Step::Next(c) = z else {
-        return GotHeader::Refused(why_step(z));
-    };
+    let has_size_field = r.flag()?;
+    zeros(r, 1)?;
     if extension_flag {
-        return obu_extension_header(s, c, obu_type, extension_flag, has_size_field);
+        return obu_extension_header(r, obu_type, extension_flag, has_size_field);
     }
-    GotHeader::Value(
-        ObuHeader {
-            obu_type,
-            extension_flag,
-            has_size_field,
-            temporal_id: 0,
-            spatial_id: 0,
-        },
-        c,
-    )
+    Ok(ObuHeader {
+        obu_type,
+        extension_flag,
+        has_size_field,
+        temporal_id: 0,
+        spatial_id: 0,
+    })
 }
 
 // 5.3.2, of an OBU that is to have the type t.
-pub fn obu_header(s: &[u8], c: Cursor, t: u32) -> GotHeader
-    ensures { Said header (obu_header t).dec s.now c result }
+#[tactic(auto, using(reader::proofs::Reading::readings), unfolding(crate::specs::Header::obu_header, crate::specs::Header::header_table))]
+#[inline(always)]
+pub fn obu_header(r: &mut BitReader, t: u32) -> Result<ObuHeader, Refusal>
+    ensures { Said (obu_header t).dec r.old r.new result }
 {
-    let z = zeros(s, c, 1);
-    let Step::Next(c) = z else {
-        return GotHeader::Refused(why_step(z));
-    };
-    let g = expected_type(s, c, t);
-    let GotNumber::Value(obu_type, c) = g else {
-        return GotHeader::Refused(why_number(g));
-    };
-    let b = flag(s, c);
-    let GotFlag::Value(extension_flag, c) = b else {
-        return GotHeader::Refused(why_flag(b));
-    };
-    header_end(s, c, obu_type, extension_flag)
+    zeros(r, 1)?;
+    let obu_type = expected_type(r, t)?;
+    let extension_flag = r.flag()?;
+    header_end(r, obu_type, extension_flag)
 }
 
 // How many bytes have places.
 fn reach(s: &[u8]) -> usize
     ensures { result ≡ min (length s.now) (limit / 8) }
 {
-    rest(s, 0) / 8
+    s.len().min(LIMIT / 8)
 }
 
-// Whether just `size` bytes follow the place.
-fn follow(s: &[u8], c: Cursor, size: u64) -> bool
-    ensures { result ≡ eqb (size * 8) (length (from s.now c.at)) }
+// Whether just `size` bytes follow.
+#[tactic(auto, using(crate::proofs::TailReading::follows))]
+fn follow(r: &BitReader, size: u64) -> bool
+    ensures { result ≡ eqb (size * 8) (length (from r.now.bytes.now r.now.at)) }
 {
-    let left = rest(s, c.at);
-    if left % 8 == 0 {
-        return size == (left / 8) as u64;
-    }
-    false
+    let left = r.rest();
+    left % 8 == 0 && size == (left / 8) as u64
 }
 
 // The size, if flagged: the number of the bytes that follow.
-pub fn obu_size(s: &[u8], c: Cursor, has_size_field: bool) -> Step
-    ensures { Said form.step (read_size has_size_field) s.now c result }
+#[tactic(auto, using(crate::proofs::TailReading::sizes))]
+#[inline(always)]
+pub fn obu_size(r: &mut BitReader, has_size_field: bool) -> Result<(), Refusal>
+    ensures { Said (read_size has_size_field) r.old r.new result }
 {
-    if !has_size_field {
-        return Step::Next(c);
+    if has_size_field {
+        let size = r.leb128()?;
+        if !follow(r, size) {
+            return Err(Refusal::Size);
+        }
     }
-    let g = leb128(s, c);
-    let GotSize::Value(size, c) = g else {
-        return Step::Refused(why_size(g));
-    };
-    if follow(s, c, size) {
-        return Step::Next(c);
-    }
-    Step::Refused(Refusal::Size)
+    Ok(())
 }
-
 // Whether the bits of x from k on are a one and zeros.
+#[tactic(auto, using(crate::proofs::TailReading::ones))]
 fn last_one(x: u8, k: u32) -> bool
     requires { k < 8 }
     ensures { result ≡ is_trailing (to_bits (8 - k) x) }
@@ -182,6 +130,7 @@ fn last_one(x: u8, k: u32) -> bool
 }
 
 // Whether a byte is 0, and so were those before it.
+#[tactic(auto, using(crate::proofs::TailReading::stills))]
 fn still_zero(clear: bool, x: u8) -> bool
     ensures { result ≡ (clear && eqb x 0) }
 {
@@ -189,31 +138,27 @@ fn still_zero(clear: bool, x: u8) -> bool
 }
 
 // Whether all bytes from i on are 0. (No way out of the loop: so it is compiled to look at many bytes at a time.)
+#[tactic(auto, using(crate::proofs::TailReading::scans))]
 fn zero_bytes(s: &[u8], i: usize) -> bool
     ensures { result ≡ all_zero (from s.now (i * 8)) }
 {
-    let last = reach(s);
-    let mut i = i;
     let mut clear = true;
-    while i < last {
-        clear = still_zero(clear, s[i]);
-        i += 1;
+    for j in i..reach(s) {
+        clear = still_zero(clear, s[j]);
     }
     clear
 }
 
 // 5.3.4: a one, and zeros up to the end.
-pub fn trailing_bits(s: &[u8], c: Cursor) -> Step
-    ensures { Said form.step read_trailing s.now c result }
+#[tactic(auto, using(crate::proofs::TailReading::tails))]
+pub fn trailing_bits(r: &mut BitReader) -> Result<(), Refusal>
+    ensures { Said read_trailing r.old r.new result }
 {
-    let last = reach(s);
-    let i = c.at / 8;
-    if i < last {
-        if last_one(s[i], (c.at % 8) as u32) {
-            if zero_bytes(s, i + 1) {
-                return Step::Next(Cursor { at: last * 8 });
-            }
-        }
+    let last = reach(r.bytes);
+    let i = r.at / 8;
+    if i < last && last_one(r.bytes[i], (r.at % 8) as u32) && zero_bytes(r.bytes, i + 1) {
+        r.at = last * 8;
+        return Ok(());
     }
-    Step::Refused(Refusal::Trailing)
+    Err(Refusal::Trailing)
 }

@@ -1,100 +1,77 @@
 // 5.3 written: the header, the size, and the trailing bits.
-ghost use Rattle.bits.specs.Walk.{Walked, unsigned};
+ghost use Rattle.bits.specs.Walk.{unsigned};
+ghost use Rattle.writer.specs.Walked.{Walked};
 ghost use Rattle.obu.specs.Header.{expected_type, obu_extension_header, extension_of, header_end, end_of, obu_header};
 ghost use Rattle.obu.specs.Framing.{obu_size, trailing_bits};
 
 use crate::header::ObuHeader;
 use bits::answer::*;
 use bits::element::*;
-use writer::*;
+use writer::BitWriter;
 
 // A bit that is always 0.
-fn zero(out: &mut [u8], c: Cursor) -> Step
-    ensures { Walked (unsigned 1 0 0 0) c out.old result out.new }
+fn zero(w: &mut BitWriter) -> Result<(), Refusal>
+    ensures { Walked (unsigned 1 0 0 0) w.old w.new result }
 {
-    flag(out, c, false)
+    w.flag(false)
 }
 
 // obu_type, which must be t.
-fn expected_type(out: &mut [u8], c: Cursor, obu_type: u32, t: u32) -> Step
-    ensures { Walked ((expected_type t).enc obu_type) c out.old result out.new }
+fn expected_type(w: &mut BitWriter, obu_type: u32, t: u32) -> Result<(), Refusal>
+    ensures { Walked ((expected_type t).enc obu_type) w.old w.new result }
 {
     if obu_type == t {
-        return f(out, c, 4, obu_type, OBU_TYPE, 0);
+        return w.f(4, obu_type, OBU_TYPE, 0);
     }
-    Step::Refused(Refusal::Inconsistent(OBU_TYPE, 0))
+    Err(Refusal::Inconsistent(OBU_TYPE, 0))
 }
 
 // 5.3.3
-fn obu_extension_header(out: &mut [u8], c: Cursor, h: ObuHeader) -> Step
-    ensures { Walked (obu_extension_header.enc (extension_of h)) c out.old result out.new }
+fn obu_extension_header(w: &mut BitWriter, h: ObuHeader) -> Result<(), Refusal>
+    ensures { Walked (obu_extension_header.enc (extension_of h)) w.old w.new result }
 {
-    let s = f(out, c, 3, h.temporal_id, TEMPORAL_ID, 0);
-    let Step::Next(c) = s else {
-        return s;
-    };
-    let s = f(out, c, 2, h.spatial_id, SPATIAL_ID, 0);
-    let Step::Next(c) = s else {
-        return s;
-    };
-    f(out, c, 3, 0, 0, 0)
+    w.f(3, h.temporal_id, TEMPORAL_ID, 0)?;
+    w.f(2, h.spatial_id, SPATIAL_ID, 0)?;
+    w.f(3, 0, 0, 0)
 }
 
 // The header from obu_has_size_field on.
-fn header_end(out: &mut [u8], c: Cursor, h: ObuHeader) -> Step
-    ensures { Walked ((header_end h.extension_flag).enc (end_of h)) c out.old result out.new }
+fn header_end(w: &mut BitWriter, h: ObuHeader) -> Result<(), Refusal>
+    ensures { Walked ((header_end h.extension_flag).enc (end_of h)) w.old w.new result }
 {
-    let s = flag(out, c, h.has_size_field);
-    let Step::Next(c) = s else {
-        return s;
-    };
-    let s = zero(out, c);
-    let Step::Next(c) = s else {
-        return s;
-    };
+    w.flag(h.has_size_field)?;
+    zero(w)?;
     if h.extension_flag {
-        return obu_extension_header(out, c, h);
+        return obu_extension_header(w, h);
     }
-    Step::Next(c)
+    Ok(())
 }
 
 // 5.3.2, of an OBU that is to have the type t.
-pub fn obu_header(out: &mut [u8], c: Cursor, h: ObuHeader, t: u32) -> Step
-    ensures { Walked ((obu_header t).enc h) c out.old result out.new }
+pub fn obu_header(w: &mut BitWriter, h: ObuHeader, t: u32) -> Result<(), Refusal>
+    ensures { Walked ((obu_header t).enc h) w.old w.new result }
 {
-    let s = zero(out, c);
-    let Step::Next(c) = s else {
-        return s;
-    };
-    let s = expected_type(out, c, h.obu_type, t);
-    let Step::Next(c) = s else {
-        return s;
-    };
-    let s = flag(out, c, h.extension_flag);
-    let Step::Next(c) = s else {
-        return s;
-    };
-    header_end(out, c, h)
+    zero(w)?;
+    expected_type(w, h.obu_type, t)?;
+    w.flag(h.extension_flag)?;
+    header_end(w, h)
 }
 
 // The size, if flagged.
-pub fn obu_size(out: &mut [u8], c: Cursor, has_size_field: bool, size: u32) -> Step
-    ensures { Walked (obu_size has_size_field size) c out.old result out.new }
+pub fn obu_size(w: &mut BitWriter, has_size_field: bool, size: u32) -> Result<(), Refusal>
+    ensures { Walked (obu_size has_size_field size) w.old w.new result }
 {
     if has_size_field {
-        return leb128(out, c, size);
+        return w.leb128(size);
     }
-    Step::Next(c)
+    Ok(())
 }
 
 // 5.3.4, behind a payload of so many bits.
-pub fn trailing_bits(out: &mut [u8], c: Cursor, length: usize) -> Step
-    ensures { Walked (trailing_bits length) c out.old result out.new }
+pub fn trailing_bits(w: &mut BitWriter, length: usize) -> Result<(), Refusal>
+    ensures { Walked (trailing_bits length) w.old w.new result }
 {
     let padding = 7 - (length % 8) as u32;
-    let s = flag(out, c, true);
-    let Step::Next(c) = s else {
-        return s;
-    };
-    f(out, c, padding, 0, 0, 0)
+    w.flag(true)?;
+    w.f(padding, 0, 0, 0)
 }

@@ -6,15 +6,13 @@ use cases::signed::signed;
 use cases::word::{PartReader, Word};
 use lines::input::{LineReader, TooLong};
 use lines::parse::Words;
-use listing::out::text;
 use std::io;
-use std::io::Read;
 
 // What a part's reader goes by: at most the three numbers of the loop filter's context and the ten deltas before it.
 const NUMBERS: usize = 13;
 
 fn bad(rt: &impl Print) -> io::Result<()> {
-    text(rt, b"bad\n")
+    rt.write_all(b"bad\n")
 }
 
 fn list(
@@ -63,11 +61,14 @@ fn case(
 }
 
 fn copied(rt: &impl Print, line: &[u8]) -> io::Result<()> {
-    text(rt, line)?;
-    text(rt, b"\n")
+    rt.write_all(line)?;
+    rt.write_all(b"\n")
 }
 
-fn one_line(rt: &impl Print, line: &[u8], bytes: &mut [u8]) -> io::Result<()> {
+fn one_line(rt: &impl Print, line: Result<&[u8], TooLong>, bytes: &mut [u8]) -> io::Result<()> {
+    let Ok(line) = line else {
+        return rt.write_all(b"bad\n\n");
+    };
     let mut words = Words::new(line);
     let Some(name) = words.next() else {
         return Ok(());
@@ -79,23 +80,7 @@ fn one_line(rt: &impl Print, line: &[u8], bytes: &mut [u8]) -> io::Result<()> {
         Some(Word::ReadPart(reader)) => case(rt, reader, &mut words, bytes)?,
         _ => bad(rt)?,
     }
-    text(rt, b"\n")
-}
-
-fn all<R: Read>(
-    rt: &impl Print,
-    lines: &mut LineReader<R>,
-    line: &mut [u8],
-    bytes: &mut [u8],
-) -> io::Result<()> {
-    for _ in 0..u64::MAX {
-        match lines.next_line(line) {
-            Some(Ok(line)) => one_line(rt, line, bytes)?,
-            Some(Err(TooLong)) => text(rt, b"bad\n\n")?,
-            None => return Ok(()),
-        }
-    }
-    Ok(())
+    rt.write_all(b"\n")
 }
 
 fn main(rt: HostRuntime) -> io::Result<()> {
@@ -103,5 +88,5 @@ fn main(rt: HostRuntime) -> io::Result<()> {
     let mut line = [0u8; 200000];
     let mut bytes = [0u8; 100000];
     let mut lines = LineReader::new(rt.stdin(), &mut chunk);
-    all(&rt, &mut lines, &mut line, &mut bytes)
+    lines.try_for_each(&mut line, |line| one_line(&rt, line, &mut bytes))
 }

@@ -7,17 +7,32 @@ pub mod lr_params; // lr_params.rt: 5.9.20
 pub mod quantization_params; // quantization_params.rt: 5.9.12, 5.9.13
 pub mod segmentation_params; // segmentation_params.rt: 5.9.14
 
-use bits::answer::*;
+use bits::answer::Refusal;
+use listing::refusal::refusal;
+use listing::row::Listing;
+use std::io;
 
-fn start(place: u32) -> Cursor {
-    Cursor { at: place as usize }
+// The next bit, for flags that the record does not hold.
+fn is_set(l: &Listing<impl Print>) -> bool {
+    l.peek().flag().unwrap_or(false)
 }
 
-// The bit at a place, for flags that the record does not hold.
-fn is_set(s: &[u8], c: Cursor) -> bool {
-    let g = reader::flag(s, c);
-    match g {
-        GotFlag::Value(value, _) => value,
-        GotFlag::Refused(_) => false,
+// The heading and the rows of a part that was read from the bit `place` of `input` on; or the refusal in words.
+fn answered<P: Print, F: FnOnce(&mut Listing<P>) -> io::Result<()>>(
+    rt: &P,
+    input: &[u8],
+    place: u32,
+    answer: Result<u32, Refusal>,
+    rows: F,
+) -> io::Result<()>
+    requires { F.IsAlwaysCallable rows }
+{
+    match answer {
+        Ok(_) => {
+            let mut l = Listing::new(rt, input, place as usize);
+            l.heading()?;
+            rows(&mut l)
+        }
+        Err(r) => refusal(rt, r),
     }
 }

@@ -1,6 +1,5 @@
 -- Signed numbers as the code compares and hands them on, over every width.
 use mathlib.Core.Path.{◌≡◌, refl, sym, ap, ◌∙◌}
-use mathlib.Core.List.{List}
 use mathlib.Core.Bool.{Bool, true, false}
 use Prim.Native.Nat.{ℕ, ◌<◌, ◌^◌}
 use native.Mathlib.Omega.{arith}
@@ -13,14 +12,16 @@ use mir.Val.{SFits, to_z, of_z, hbits}
 use mir.Facts.{to_z-of_z}
 use borrow.Author.Tests.{eq-eqb, ne_eqb, eqb-true}
 use Rattle.bits.specs.Bits.{to_bits}
-use Rattle.bits.specs.Walk.{Walk, Walked, ◌⊕◌, wrote, run}
+use Rattle.bits.specs.Walk.{Walk, ◌⊕◌, wrote, run}
 use Rattle.bits.specs.Codec.{Codec}
 use Rattle.bits.specs.Codes.{su_out, su}
-use Rattle.bits.specs.declared.answer.Cursor.{Cursor}
-use Rattle.bits.specs.declared.answer.Step.{Step}
-use Rattle.bits.specs.declared.answer.Step.TheVariants.{Next}
+use Rattle.writer.specs.Walked.{Walked}
+use Rattle.writer.specs.declared.BitWriter.{BitWriter}
+use Rattle.writer.proofs.Walking.{Answer as Step}
+use Rattle.std.specs.Result.{result_from_control_flow}
+use Rattle.std.proofs.Common.{Continue}
 use Rattle.bits.proofs.Leaves.{field-run}
-use Rattle.bits.proofs.Walking.{hop}
+use Rattle.writer.proofs.Walking.{on}
 use Rattle.parts.specs.Codes.{same, inferred_signed}
 
 -- the test tells
@@ -60,30 +61,30 @@ module _ (w : Width) (a b : ℤ) (f : SFits w a) (g : SFits w b) where
       go false h = sym (same_ne a b (λ e. let q : ◌≡◌ {A = Bool} true false = sym (eq-eqb (of_z w a) (of_z w b) (ap (of_z w) e)) ∙ h in let z : ◌≡◌ {A = ℕ} 0 1 = cc in omega arith))
 
 -- What a call is given is what its caller has: a walk that ends with the call, and one that goes on behind it.
-given_any : (w : Width) (t : Codec ℤ) (z : ℤ) {c : Cursor} {xs ys : List ℕ} {s : Step} → mag z < 2 ^ hbits w → Walked (t.enc (to_z w (of_z w z))) c xs s ys → Walked (t.enc z) c xs s ys
+given_any : (w : Width) (t : Codec ℤ) (z : ℤ) {c d : BitWriter} {s : Step} → mag z < 2 ^ hbits w → Walked (t.enc (to_z w (of_z w z))) c d s → Walked (t.enc z) c d s
 given_any w t z f g = rw (word w z f) at g
 
-module _ (t : Codec ℤ) (z : ℤ) {c : Cursor} {xs ys : List ℕ} {s : Step} where
-  pub given : mag z < 2 ^ 31 → Walked (t.enc (to_z w32 (of_z w32 z))) c xs s ys → Walked (t.enc z) c xs s ys
+module _ (t : Codec ℤ) (z : ℤ) {c d : BitWriter} {s : Step} where
+  pub given : mag z < 2 ^ 31 → Walked (t.enc (to_z w32 (of_z w32 z))) c d s → Walked (t.enc z) c d s
   given f g = given_any w32 t z f g
 
-  pub given_16 : mag z < 32768 → Walked (t.enc (to_z w16 (of_z w16 z))) c xs s ys → Walked (t.enc z) c xs s ys
+  pub given_16 : mag z < 32768 → Walked (t.enc (to_z w16 (of_z w16 z))) c d s → Walked (t.enc z) c d s
   given_16 f g = given_any w16 t z f g
 
-  pub given_then : {w : Walk} {d : Cursor} {u : Step} {zs : List ℕ} → mag z < 2 ^ 31 → Walked (t.enc (to_z w32 (of_z w32 z))) c xs s ys → s ≡ Next d → Walked w d ys u zs → Walked (t.enc z ⊕ w) c xs u zs
-  given_then f g h k = hop (given f g) h k
+  pub given_then : {w : Walk} {far : BitWriter} {u : Step} {k : _} {x : Unit {0}} → mag z < 2 ^ 31 → Walked (t.enc (to_z w32 (of_z w32 z))) c d s → s ≡ result_from_control_flow k → k ≡ Continue x → Walked w d far u → Walked (t.enc z ⊕ w) c far u
+  given_then f g h l k = on (given f g) h l k
 
 -- the same of a number and the one that it has to be
-module _ (e : ℕ) (x z : ℤ) {c : Cursor} {xs ys : List ℕ} {s : Step} where
-  pub both : mag x < 2 ^ 31 → mag z < 2 ^ 31 → Walked ((inferred_signed e (to_z w32 (of_z w32 x))).enc (to_z w32 (of_z w32 z))) c xs s ys → Walked ((inferred_signed e x).enc z) c xs s ys
-  both f g h = rw (word w32 x f, word w32 z g) at h
+module _ (e : ℕ) (y z : ℤ) {c d : BitWriter} {s : Step} where
+  pub both : mag y < 2 ^ 31 → mag z < 2 ^ 31 → Walked ((inferred_signed e (to_z w32 (of_z w32 y))).enc (to_z w32 (of_z w32 z))) c d s → Walked ((inferred_signed e y).enc z) c d s
+  both f g h = rw (word w32 y f, word w32 z g) at h
 
-  pub both_then : {w : Walk} {d : Cursor} {u : Step} {zs : List ℕ} → mag x < 2 ^ 31 → mag z < 2 ^ 31 → Walked ((inferred_signed e (to_z w32 (of_z w32 x))).enc (to_z w32 (of_z w32 z))) c xs s ys → s ≡ Next d → Walked w d ys u zs
-      → Walked ((inferred_signed e x).enc z ⊕ w) c xs u zs
-  both_then f g k h q = hop (both f g k) h q
+  pub both_then : {w : Walk} {far : BitWriter} {u : Step} {k : _} {x : Unit {0}} → mag y < 2 ^ 31 → mag z < 2 ^ 31 → Walked ((inferred_signed e (to_z w32 (of_z w32 y))).enc (to_z w32 (of_z w32 z))) c d s → s ≡ result_from_control_flow k → k ≡ Continue x → Walked w d far u
+      → Walked ((inferred_signed e y).enc z ⊕ w) c far u
+  both_then f g k h l q = on (both f g k) h l q
 
 -- a number that a function finds
-pub both_by : (e : ℕ) (y x z : ℤ) {c : Cursor} {xs ys : List ℕ} {s : Step} → mag y < 2 ^ 31 → mag z < 2 ^ 31 → y ≡ x → Walked ((inferred_signed e (to_z w32 (of_z w32 y))).enc (to_z w32 (of_z w32 z))) c xs s ys → Walked ((inferred_signed e x).enc z) c xs s ys
+pub both_by : (e : ℕ) (y x z : ℤ) {c d : BitWriter} {s : Step} → mag y < 2 ^ 31 → mag z < 2 ^ 31 → y ≡ x → Walked ((inferred_signed e (to_z w32 (of_z w32 y))).enc (to_z w32 (of_z w32 z))) c d s → Walked ((inferred_signed e x).enc z) c d s
 both_by e y x z f g h k = rw h at (both e y z f g k)
 
 pub zero_small : mag (pos 0) < 2 ^ 31

@@ -9,16 +9,17 @@ use lib.Dec.{ltb}
 use lib.ListN.{length, take, drop, replicate, length-replicate, length-append, length-take, length-drop, take-append-drop}
 use lib.Seq.{take-append-le, take-take}
 use Rattle.bits.specs.Bits.{Bits, put, from, end}
-use Rattle.bits.specs.Walk.{Walk, End, done, refused, wrote, run, ends, step_of, bound, forward, Walked}
+use Rattle.bits.specs.Walk.{Walk, End, done, refused, wrote, run, bound}
 use Rattle.bits.specs.Codec.{Codec, got}
 use Rattle.bits.specs.Lawful.{loose, Lawful}
-use Rattle.bits.specs.Written.{Written, keep, whole_bytes}
-use Rattle.bits.specs.declared.answer.Answer.{Answer}
-use Rattle.bits.specs.declared.answer.Answer.TheVariants.{Done}
-use Rattle.bits.specs.declared.answer.Cursor.{Cursor}
+use Rattle.bits.specs.Written.{Written, keep, whole_bytes, Answer}
+use Rattle.std.specs.Prelude.{Ok}
 use Rattle.bits.specs.declared.answer.Refusal.TheVariants.{Short, Long}
-use Rattle.bits.specs.declared.answer.Step.{Step}
-use Rattle.bits.proofs.Walking.{answer, bytes, kept, bounded}
+use Rattle.writer.specs.Walked.{forward, answer, Walked}
+use Rattle.writer.specs.declared.BitWriter.{BitWriter}
+use Rattle.writer.proofs.Walking.{Answer as Step}
+use Rattle.bits.proofs.Lengths.{bounded}
+use Rattle.writer.proofs.Walking.{answered, bytes, place as walked_to}
 use Rattle.bits.proofs.Storing.{put_beyond, length-put}
 use Rattle.bits.proofs.Pieces.{take_put, drop-put, put_out}
 use Rattle.bits.proofs.Places.{end_is, put-bits, put_front}
@@ -29,13 +30,13 @@ use Rattle.parts.specs.Written.{after_walk, written, Writes, writes}
 pub only : {w : Walk} {place : ℕ} {xs ys zs : List ℕ} {r s : Answer} → Writes w place xs r ys → Writes w place xs s zs → (r ≡ s) × (ys ≡ zs)
 only (writes a b) (writes c d) = (a ∙ sym c, b ∙ sym d)
 
-stored : (t : Bool) (k : End) (bs : Bits) (place : ℕ) (xs : List ℕ) {n : ℕ} → Done n ≡ (cond t (keep Long xs) (after_walk k bs place xs)).answer → put xs place bs ≡ (cond t (keep Long xs) (after_walk k bs place xs)).bytes
+stored : (t : Bool) (k : End) (bs : Bits) (place : ℕ) (xs : List ℕ) {n : ℕ} → Ok n ≡ (cond t (keep Long xs) (after_walk k bs place xs)).answer → put xs place bs ≡ (cond t (keep Long xs) (after_walk k bs place xs)).bytes
 stored true k bs place xs h = let z : ◌≡◌ {A = ℕ} 0 1 = cc in absurd (omega arith)
 stored false (refused r) bs place xs h = let z : ◌≡◌ {A = ℕ} 0 1 = cc in absurd (omega arith)
 stored false done bs place xs {n} h = go (ltb (length xs * 8) (place + length bs)) h
   where
-    go : (t : Bool) → Done n ≡ (cond t (keep (Short (whole_bytes (place + length bs))) xs) (record { answer = Done (place + length bs); bytes = put xs place bs })).answer
-        → put xs place bs ≡ (cond t (keep (Short (whole_bytes (place + length bs))) xs) (record { answer = Done (place + length bs); bytes = put xs place bs })).bytes
+    go : (t : Bool) → Ok n ≡ (cond t (keep (Short (whole_bytes (place + length bs))) xs) (record { answer = Ok (place + length bs); bytes = put xs place bs })).answer
+        → put xs place bs ≡ (cond t (keep (Short (whole_bytes (place + length bs))) xs) (record { answer = Ok (place + length bs); bytes = put xs place bs })).bytes
     go true h = let z : ◌≡◌ {A = ℕ} 0 1 = cc in absurd (omega arith)
     go false h = refl
 
@@ -47,18 +48,18 @@ pub record Room (w : Walk) (place : ℕ) (xs ys : List ℕ) (n : ℕ) : Type 0 w
   pub inside : place + length (run w).bits ≤ end xs
   pub content : ys ≡ put xs place (run w).bits
 
-fitted : (t : Bool) (k : End) (bs : Bits) (place : ℕ) (xs : List ℕ) {n : ℕ} → Done n ≡ (cond t (keep Long xs) (after_walk k bs place xs)).answer
+fitted : (t : Bool) (k : End) (bs : Bits) (place : ℕ) (xs : List ℕ) {n : ℕ} → Ok n ≡ (cond t (keep Long xs) (after_walk k bs place xs)).answer
     → (t ≡ false) × (k ≡ done) × (n ≡ place + length bs) × (place + length bs ≤ length xs * 8)
 fitted true k bs place xs h = let z : ◌≡◌ {A = ℕ} 0 1 = cc in absurd (omega arith)
 fitted false (refused r) bs place xs h = let z : ◌≡◌ {A = ℕ} 0 1 = cc in absurd (omega arith)
 fitted false done bs place xs {n} h = go (ltb (length xs * 8) (place + length bs)) refl h
   where
-    go : (t : Bool) → ltb (length xs * 8) (place + length bs) ≡ t → Done n ≡ (cond t (keep (Short (whole_bytes (place + length bs))) xs) (record { answer = Done (place + length bs); bytes = put xs place bs })).answer
+    go : (t : Bool) → ltb (length xs * 8) (place + length bs) ≡ t → Ok n ≡ (cond t (keep (Short (whole_bytes (place + length bs))) xs) (record { answer = Ok (place + length bs); bytes = put xs place bs })).answer
         → (◌≡◌ {A = Bool} false false) × (◌≡◌ {A = End} done done) × (n ≡ place + length bs) × (place + length bs ≤ length xs * 8)
     go true e h = let z : ◌≡◌ {A = ℕ} 0 1 = cc in absurd (omega arith)
     go false e h = (refl, refl, (cc), ltb-false (length xs * 8) (place + length bs) e)
 
-pub room : (w : Walk) (place : ℕ) (xs ys : List ℕ) (n : ℕ) → Writes w place xs (Done n) ys → Room w place xs ys n
+pub room : (w : Walk) (place : ℕ) (xs ys : List ℕ) (n : ℕ) → Writes w place xs (Ok n) ys → Room w place xs ys n
 unfolding written
 room w place xs ys n (writes a b) =
     let r = fitted (ltb 65536 (length xs)) (run w).end (run w).bits place xs a in
@@ -72,11 +73,11 @@ room w place xs ys n (writes a b) =
     }
 
 -- Exactly the part's bits stand at the place, and every other bit is kept.
-pub exact : (w : Walk) (place : ℕ) (xs ys : List ℕ) (n : ℕ) → Writes w place xs (Done n) ys → from ys 0 ≡ take place (from xs 0) ++ (run w).bits ++ drop n (from xs 0)
+pub exact : (w : Walk) (place : ℕ) (xs ys : List ℕ) (n : ℕ) → Writes w place xs (Ok n) ys → from ys 0 ≡ take place (from xs 0) ++ (run w).bits ++ drop n (from xs 0)
 exact w place xs ys n g = let r = room w place xs ys n g in rw (r.place_is, r.content) (put-bits xs place (run w).bits r.inside)
 
 -- What a table's writer has written reads back: what was coded, and behind it what stood there.
-pub reads_back : {A : Type 0} {c : Codec A} → Lawful loose c → (a : A) (place : ℕ) (xs ys : List ℕ) (n : ℕ) → Writes (c.enc a) place xs (Done n) ys → c.dec (from ys place) ≡ got (c.coded a) (from xs n)
+pub reads_back : {A : Type 0} {c : Codec A} → Lawful loose c → (a : A) (place : ℕ) (xs ys : List ℕ) (n : ℕ) → Writes (c.enc a) place xs (Ok n) ys → c.dec (from ys place) ≡ got (c.coded a) (from xs n)
 reads_back {c = c} C a place xs ys n g =
     let r = room (c.enc a) place xs ys n g in
     rw (r.place_is, r.content, put_front xs place (run (c.enc a)).bits r.inside) (C.complete a (run (c.enc a)).bits (from xs (place + length (run (c.enc a)).bits)) (C.own a (run (c.enc a)).bits r.walked))
@@ -118,7 +119,7 @@ lent_length xs place ns =
 
 -- what comes of a walk over the array is what the contract says
 agree : (k : End) (bs : Bits) (place : ℕ) (xs ns : List ℕ) → place % 8 + length bs ≤ length ns * 8 → length ns ≤ 65536
-    → cond (ltb 65536 (length xs)) (keep Long xs) (after_near (ends k (place % 8 + length bs)) (place / 8) (put (lent xs place ns) (place % 8) bs) xs)
+    → cond (ltb 65536 (length xs)) (keep Long xs) (after_near (answer k) (place % 8 + length bs) (place / 8) (put (lent xs place ns) (place % 8) bs) xs)
     ≡ cond (ltb 65536 (length xs)) (keep Long xs) (after_walk k bs place xs)
 agree (refused r) bs place xs ns m l = refl
 agree done bs place xs ns m l = rw (le-ltb 65536 (length near) (omega (arith, n)), le-ltb (length near * 8) (place % 8 + length bs) (omega (arith, n)), e, c) (go (ltb 65536 (length xs)) (ltb (length xs * 8) (place + length bs)) refl refl)
@@ -139,21 +140,21 @@ agree done bs place xs ns m l = rw (le-ltb 65536 (length near) (omega (arith, n)
     stands = take (place / 8) xs ++ (take (whole_bytes (place % 8 + length bs)) (put (lent xs place ns) (place % 8) bs) ++ drop (whole_bytes (place % 8 + length bs)) (drop (place / 8) xs))
 
     go : (t u : Bool) → ltb 65536 (length xs) ≡ t → ltb (length xs * 8) (place + length bs) ≡ u
-        → cond t (keep Long xs) (cond u (keep (Short (whole_bytes (place + length bs))) xs) (record { answer = Done (place + length bs); bytes = stands }))
-        ≡ cond t (keep Long xs) (cond u (keep (Short (whole_bytes (place + length bs))) xs) (record { answer = Done (place + length bs); bytes = put xs place bs }))
+        → cond t (keep Long xs) (cond u (keep (Short (whole_bytes (place + length bs))) xs) (record { answer = Ok (place + length bs); bytes = stands }))
+        ≡ cond t (keep Long xs) (cond u (keep (Short (whole_bytes (place + length bs))) xs) (record { answer = Ok (place + length bs); bytes = put xs place bs }))
     go true u h l = refl
     go false true h l = refl
     go false false h l =
-        ap (λ (ys : List ℕ). record { answer = Done (place + length bs); bytes = ys }) (back xs ns place bs (ltb-false 65536 (length xs) h) (ltb-false (length xs * 8) (place + length bs) l) m)
+        ap (λ (ys : List ℕ). record { answer = Ok (place + length bs); bytes = ys }) (back xs ns place bs (ltb-false 65536 (length xs) h) (ltb-false (length xs * 8) (place + length bs) l) m)
 
 -- One walk of a part, over the array, and what comes of it.
-module _ {n : ℕ} {w : Walk} (xs : List ℕ) (place : ℕ) {c : Cursor} {ms ns : List ℕ} {s : Step} (g : Walked w c ms s ns) (b : c ≡ record { at = place % 8 }) (m : ms ≡ lent xs place (replicate n 0)) (F : Near n w) where
-  bits-end : forward (place % 8) (length (run w).bits) ≡ place % 8 + length (run w).bits
-  bits-end = omega (arith, bounded w, F.most, F.size)
+module _ {n : ℕ} {w : Walk} (xs : List ℕ) (place : ℕ) {c d : BitWriter} {s : Step} (g : Walked w c d s) (b : c.at ≡ place % 8) (m : c.out.now ≡ lent xs place (replicate n 0)) (F : Near n w) where
+  at-end : d.at ≡ place % 8 + length (run w).bits
+  at-end = let p : d.at ≡ forward (place % 8) (length (run w).bits) = rw b at (walked_to g) in omega (arith, p, bounded w, F.most, F.size)
 
-  pub once : {a : Answer} {ys : List ℕ} → Settles s place ns xs a ys → Writes w place xs a ys
-  unfolding settled written step_of
+  pub once : {a : Answer} {ys : List ℕ} → Settles s d.at place d.out.now xs a ys → Writes w place xs a ys
+  unfolding settled written
   once (settles p q) =
       let e = agree (run w).end (run w).bits place xs (replicate n 0) (omega (arith, bounded w, F.most, length-replicate {A = ℕ} n 0)) (omega (arith, F.size, length-replicate {A = ℕ} n 0)) in
-      let f : settled s place ns xs ≡ written w place xs = rw (bytes g, m, answer g, b, bits-end) e in
+      let f : settled s d.at place d.out.now xs ≡ written w place xs = rw (bytes g, m, answered g, b, at-end) e in
       writes (p ∙ ap (λ (u : Written). u.answer) f) (q ∙ ap (λ (u : Written). u.bytes) f)

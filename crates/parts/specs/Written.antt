@@ -1,10 +1,8 @@
 -- What the writer of a part answers, and what it leaves in the slice that it is lent: for every walk, every place and every slice.
-use Rattle.std.specs.Prelude.{◌≡◌, List, cond, ℕ, ◌+◌, ◌*◌, ltb, length}
+use Rattle.std.specs.Prelude.{◌≡◌, List, cond, ℕ, ◌+◌, ◌*◌, ltb, length, Ok}
 use Rattle.bits.specs.Bits.{Bits, put}
 use Rattle.bits.specs.Walk.{Walk, End, done, refused, run}
-use Rattle.bits.specs.Written.{Written, keep, whole_bytes}
-use Rattle.bits.specs.declared.answer.Answer.{Answer}
-use Rattle.bits.specs.declared.answer.Answer.TheVariants.{Done}
+use Rattle.bits.specs.Written.{Written, keep, whole_bytes, Answer}
 use Rattle.bits.specs.declared.answer.Refusal.TheVariants.{Short, Long}
 
 -- after a walk from a place on: its refusal; a slice that is too short; or exactly its bits stored, and the place behind them
@@ -13,7 +11,7 @@ after_walk (refused r) bs place xs = keep r xs
 after_walk done bs place xs =
     cond (ltb (length xs * 8) (place + length bs))
     (keep (Short (whole_bytes (place + length bs))) xs)
-    (record { answer = Done (place + length bs); bytes = put xs place bs })
+    (record { answer = Ok (place + length bs); bytes = put xs place bs })
 
 -- a slice over 65,536 bytes is refused before the walk
 unfoldable pub written : Walk → ℕ → List ℕ → Written

@@ -2,6 +2,6 @@
 #![tactic(auto)]
 
 pub mod delta; // delta.rt: deltas that are coded
-pub mod inferred; // inferred.rt: tests of several flags, and deltas that are not coded
+pub mod inferred; // inferred.rt: deltas that are not coded
 pub mod pair; // pair.rt: two fields stored as one
 pub mod place; // place.rt: the room for a part at a place

@@ -1,13 +1,13 @@
 // Two fields of one width, stored as one.
-ghost use Rattle.bits.specs.Walk.{Walked, unsigned, ◌⊕◌};
+ghost use Rattle.bits.specs.Walk.{unsigned, ◌⊕◌};
+ghost use Rattle.writer.specs.Walked.{Walked};
 
 use bits::answer::*;
-use writer::f;
+use writer::BitWriter;
 
 // The numbers a and b, of the elements x and y with their indexes.
 pub fn pair(
-    out: &mut [u8],
-    c: Cursor,
+    w: &mut BitWriter,
     width: u32,
     a: u32,
     b: u32,
@@ -15,20 +15,17 @@ pub fn pair(
     i: u8,
     y: u8,
     j: u8,
-) -> Step
-    ensures { Walked (unsigned width a x i ⊕ unsigned width b y j) c out.old result out.new }
+) -> Result<(), Refusal>
+    ensures { Walked (unsigned width a x i ⊕ unsigned width b y j) w.old w.new result }
 {
     if width <= 16 {
         let top = 1u32 << width;
         if a < top {
             if b < top {
-                return f(out, c, width * 2, a * top + b, x, i);
+                return w.f(width * 2, a * top + b, x, i);
             }
         }
     }
-    let s = f(out, c, width, a, x, i);
-    let Step::Next(c) = s else {
-        return s;
-    };
-    f(out, c, width, b, y, j)
+    w.f(width, a, x, i)?;
+    w.f(width, b, y, j)
 }

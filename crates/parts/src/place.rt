@@ -3,9 +3,12 @@ ghost use Rattle.std.specs.Prelude.{◌≡◌, ◌%◌};
 ghost use Rattle.parts.specs.Settled.{lent, Settles};
 
 use bits::answer::*;
+use writer::BitWriter;
 
 // What such an array has beside the part's most bits, in whole words of eight bytes: the bits before the place, and a store of eight bytes behind the part.
 pub const SPARE_BITS: usize = 7 + 64 + 63;
+
+// (The five writers lend, walk and settle: one function over the walk as a closure would have to be told each walk's contract once more.)
 
 // The bytes of `out` from that of the place on, as many as both have, at the start of `near`.
 pub fn lend(out: &[u8], place: u32, near: &mut [u8])
@@ -25,40 +28,40 @@ pub fn lend(out: &[u8], place: u32, near: &mut [u8])
 }
 
 // Where a part begins in that array.
-pub fn start(place: u32) -> Cursor
-    ensures { result ≡ record { at = place % 8 } }
+pub fn start(place: u32) -> usize
+    ensures { result ≡ place % 8 }
 {
-    Cursor {
-        at: (place % 8) as usize,
-    }
+    (place % 8) as usize
 }
 
-// A walk over `near` that came to s: its refusal, or its bytes put back into `out`.
-pub fn settle(s: Step, place: u32, near: &[u8], out: &mut [u8]) -> Answer
-    ensures { Settles s place near.now out.old result out.new }
+// What a walk over that array came to: its refusal, or its bytes put back into `out`.
+pub fn settle(
+    walk: Result<(), Refusal>,
+    near: &BitWriter,
+    place: u32,
+    out: &mut [u8],
+) -> Result<u32, Refusal>
+    ensures { Settles walk near.now.at place near.now.out.now out.old result out.new }
 {
     let len = out.len();
     if 65536 < len {
-        return Answer::Refused(Refusal::Long);
+        return Err(Refusal::Long);
     }
-    match s {
-        Step::Refused(r) => Answer::Refused(r),
-        Step::Next(c) => {
-            let room = near.len();
-            if 65536 < room {
-                return Answer::Refused(Refusal::Long);
-            }
-            if room * 8 < c.at {
-                return Answer::Refused(Refusal::Long);
-            }
-            let first = (place / 8) as usize;
-            let count = (c.at + 7) / 8;
-            let end = first * 8 + c.at;
-            if len * 8 < end {
-                return Answer::Refused(Refusal::Short((first + count) as u32));
-            }
-            bits::slice::copy(&near[..count], &mut out[first..]);
-            Answer::Done(end as u32)
-        }
+    walk?;
+    let at = near.at;
+    let room = near.out.len();
+    if 65536 < room {
+        return Err(Refusal::Long);
     }
+    if room * 8 < at {
+        return Err(Refusal::Long);
+    }
+    let first = (place / 8) as usize;
+    let count = (at + 7) / 8;
+    let end = first * 8 + at;
+    if len * 8 < end {
+        return Err(Refusal::Short((first + count) as u32));
+    }
+    bits::slice::copy(&near.out[..count], &mut out[first..]);
+    Ok(end as u32)
 }

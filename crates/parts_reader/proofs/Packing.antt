@@ -1,35 +1,33 @@
 -- A field whose number codes a value, and two fields, read as one.
 use mathlib.Core.Path.{◌≡◌, refl, ap}
-use mathlib.Core.List.{List, [], ◌∷◌, ◌++◌}
+use mathlib.Core.List.{[], ◌∷◌, ◌++◌}
 use Prim.Native.Nat.{ℕ, zero, suc, ◌+◌, ◌*◌, ◌^◌, ◌/◌, ◌%◌, ◌<◌}
 use native.Mathlib.Omega.{arith}
 use native.Mathlib.Nat.{zero-add, suc-add, mul_assoc}
 use lib.ListN.{length, length-append}
 use lib.Pow.{pow-add, high, low}
 use Rattle.bits.specs.Bits.{Bits, bit, from_bits, from}
-use Rattle.bits.specs.Codec.{Codec, Got, got, stop, and_then, take_bits, field_as, f, ◌▷◌, nil}
-use Rattle.bits.specs.Answers.{Reads, refused, found, Moved}
-use Rattle.bits.specs.declared.answer.Cursor.{Cursor}
+use Rattle.bits.specs.Codec.{Codec, Got, got, stop, and_then, take_bits, field_as, f, ◌▷◌}
+use Rattle.std.specs.Prelude.{Result, Ok, Err, IsErrAnd}
+use Rattle.bits.specs.Answers.{found, Moved}
 use Rattle.bits.specs.declared.answer.Refusal.{Refusal}
 use Rattle.bits.specs.declared.answer.Refusal.TheVariants.{Ends}
-use Rattle.bits.specs.declared.answer.Step.{Step}
-use Rattle.bits.specs.declared.answer.Step.TheVariants.{Next, Refused}
 use Rattle.bits.proofs.Numbers.{from_lt}
 use Rattle.bits.proofs.Leaves.{take_inv}
-use Rattle.bits.proofs.Reading.{field_as_lem, read_last, read_no}
-use Rattle.fill.specs.Fills.{Layout, whole, Fills, fills}
-use Rattle.fill.proofs.Filling.{laid, begin, was_it, stopped}
+use Rattle.reader.specs.declared.BitReader.{BitReader}
+use Rattle.reader.specs.Reading.{Said, said}
+use Rattle.reader.proofs.Reading.{stops, start, field_as_lem, last, last_no}
 
 -- n bits, whose number codes a value: how it is written does not matter
 abbrev pub bits_of : {B : Type 0} → ℕ → (ℕ → B) → Codec B
 bits_of n h = field_as n (λ _. 0) h (λ _. Ends)
 
-module _ (n : ℕ) {B M : Type 0} (h : ℕ → B) {l : Layout M B} {xs : List ℕ} {p : Cursor} {u : Step} {w v : ℕ} (g : Fills whole (f n 0 0).dec xs p u w v) {m z : M} where
-  pub field-done : {q : Cursor} → u ≡ Next q → z ≡ l.put (h v) m → Fills l (bits_of n h).dec xs p (Next q) m z
-  field-done e k = begin (bits_of n h) (laid (field_as_lem n _ h _ (read_last _ (was_it g e) k)))
+module _ (n : ℕ) {B : Type 0} (h : ℕ → B) {p q : BitReader} where
+  pub field-done : {v : ℕ} → Said (f n 0 0).dec p q (Ok v) → Said (bits_of n h).dec p q (Ok (h v))
+  field-done s = start _ (field_as_lem n (λ _. 0) h (λ _. Ends) (last (f n 0 0) s refl))
 
-  pub field_halt : {y : Refusal} → u ≡ Refused y → Fills l (bits_of n h).dec xs p u m z
-  field_halt e = rw e (begin (bits_of n h) (laid (field_as_lem n _ h _ (read_no _ (stopped g e)))))
+  pub field_halt : {y : Refusal} {r : Result B Refusal} → Said (f n 0 0).dec p q (Err y) → IsErrAnd r (λ z. z ≡ y) → Said (bits_of n h).dec p q r
+  field_halt s i = start _ (field_as_lem n (λ _. 0) h (λ _. Ends) (last_no (f n 0 0) s i))
 
 -- two fields' bits
 abbrev behind : Bits → Got Bits → Got Bits
@@ -78,11 +76,10 @@ module _ (m n : ℕ) {B : Type 0} (h : ℕ → B) where
           on (got ys end) e = ap (λ (a : ℕ × B). got a end) (two xs ys (take_inv n rest ys end e).0)
           on (stop y) e = refl
 
-  module _ {M : Type 0} {l : Layout M (ℕ × B)} {xs : List ℕ} {p : Cursor} {u : Step} {w v : ℕ} (g : Fills whole (f (m + n) 0 0).dec xs p u w v) {o z : M} where
-    pub two_done : {q : Cursor} → u ≡ Next q → z ≡ l.put (v / 2 ^ n, h (v % 2 ^ n)) o → Fills l (f m 0 0 ▷ λ _. bits_of n h).dec xs p (Next q) o z
+  module _ {p q : BitReader} where
+    pub two-fields : {v : ℕ} → Said (f (m + n) 0 0).dec p q (Ok v) → Said (f m 0 0 ▷ λ _. bits_of n h).dec p q (Ok (v / 2 ^ n, h (v % 2 ^ n)))
     unfolding found Moved
-    two_done e k = let r = was_it g e in fills (record { finds = rw (two_fields (from xs p.at), r.finds, k) refl; moves = r.moves })
+    two-fields (said e s) = said e (record { finds = rw (two_fields (from p.bytes.now p.at), s.finds) refl; moves = s.moves })
 
-    pub two_halt : {y : Refusal} → u ≡ Refused y → Fills l (f m 0 0 ▷ λ _. bits_of n h).dec xs p u o z
-    unfolding found Moved
-    two_halt {y} e = let r : Reads (f (m + n) 0 0).dec xs p (refused y) = stopped g e in rw e (fills (record { finds = rw (two_fields (from xs p.at), r.finds) refl; moves = nil }))
+    pub two_stop : {y : Refusal} → Said (f (m + n) 0 0).dec p q (Err y) → Said (f m 0 0 ▷ λ _. bits_of n h).dec p q (Err y)
+    two_stop s = stops _ s (λ bs e. rw (two_fields bs, e) refl)

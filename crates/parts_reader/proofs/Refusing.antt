@@ -3,7 +3,6 @@ use mathlib.Core.Path.{◌≡◌, refl, sym, ◌∙◌}
 use mathlib.Core.List.{List, [], ◌∷◌}
 use mathlib.Core.Bool.{Bool, true, false, cond}
 use Prim.Native.Nat.{ℕ, zero, suc, ◌*◌, ◌<◌, ◌≤◌}
-use native.Mathlib.Omega.{arith}
 use borrow.Author.Tests.{lt-ltb, le-ltb}
 use lib.Dec.{ltb}
 use lib.IntN.{ℤ, pos}
@@ -11,7 +10,7 @@ use lib.ListN.{length}
 use Rattle.bits.specs.Bits.{Bits, from, from_bits}
 use Rattle.bits.specs.Codec.{Codec, Got, got, stop, and_then, take_bits, field_as, f, flag, absent, inferred, inferred_flag, choose, select, checked, merged, via, array, uncons, ◌▷◌}
 use Rattle.bits.specs.Codes.{su, su_out, su_in}
-use Rattle.bits.specs.Answers.{value, refused}
+use Rattle.std.specs.Prelude.{Err}
 use Rattle.bits.specs.declared.answer.Refusal.{Refusal}
 use Rattle.bits.specs.declared.answer.Refusal.TheVariants.{Ends, Long}
 use Rattle.bits.proofs.Laws.{stop-got}
@@ -119,18 +118,18 @@ pub ruleset endings = (f-ends, su-ends, natural-ends, flag-ends, absent-ends, in
 
 -- 8 exactly of a slice that is too long; else 4, and nothing else
 module _ {A : Type 0} (c : Codec A) (place : ℕ) (xs : List ℕ) where
-  pub too_long : 65536 < length xs → read_part c place xs ≡ refused Long
+  pub too_long : 65536 < length xs → read_part c place xs ≡ Err Long
   unfolding read_part
   too_long h = rw (lt-ltb 65536 (length xs) h) refl
 
-  pub ends_only : OnlyEnds c → length xs ≤ 65536 → {y : Refusal} → read_part c place xs ≡ refused y → y ≡ Ends
+  pub ends_only : OnlyEnds c → length xs ≤ 65536 → {y : Refusal} → read_part c place xs ≡ Err y → y ≡ Ends
   unfolding read_part
   ends_only C h {y} e = go (ltb (length xs * 8) place) (rw (le-ltb 65536 (length xs) h) at e)
     where
-      read : (g : Got A) → c.dec (from xs place) ≡ g → ended xs g ≡ refused y → y ≡ Ends
-      read (got a rest) p k = let z : ◌≡◌ {A = ℕ} 0 1 = cc in absurd (omega arith)
+      read : (g : Got A) → c.dec (from xs place) ≡ g → ended xs g ≡ Err y → y ≡ Ends
+      read (got a rest) p k = cc
       read (stop r) p k = let q : r ≡ y = cc in sym q ∙ of C (from xs place) r p
 
-      go : (t : Bool) → cond t (refused Ends) (ended xs (c.dec (from xs place))) ≡ refused y → y ≡ Ends
+      go : (t : Bool) → cond t (Err Ends) (ended xs (c.dec (from xs place))) ≡ Err y → y ≡ Ends
       go true k = let q : Ends ≡ y = cc in sym q
       go false k = read (c.dec (from xs place)) refl k

@@ -1,22 +1,17 @@
 // A delta, read.
-ghost use Rattle.fill.specs.Fills.{Fills, whole};
+ghost use Rattle.reader.specs.Reading.{Said};
 ghost use Rattle.parts_reader.specs.Reading.{delta};
 
-use bits::answer::*;
-use fill::{flag, su};
+use bits::answer::Refusal;
+use reader::BitReader;
 
 // su(7) where a flag is set, and the old delta where it is not.
-pub fn delta(s: &[u8], c: Cursor, old: i32, v: &mut i32) -> Step
-    ensures { Fills whole (delta old).dec s.now c result v.old v.new }
+#[tactic(auto, using(crate::proofs::Deltas::deltas))]
+pub fn delta(r: &mut BitReader, old: i32) -> Result<i32, Refusal>
+    ensures { Said (delta old).dec r.old r.new result }
 {
-    let mut coded = false;
-    let t = flag(s, c, &mut coded);
-    let Step::Next(c) = t else {
-        return t;
-    };
-    if coded {
-        return su(s, c, 7, v);
+    if r.flag()? {
+        return r.su(7);
     }
-    *v = old;
-    Step::Next(c)
+    Ok(old)
 }

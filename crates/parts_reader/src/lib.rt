@@ -2,4 +2,4 @@
 #![tactic(auto)]
 
 pub mod delta; // delta.rt: a flag and a delta
-pub mod place; // place.rt: where a part's reading begins, and what its end answers
+pub mod place; // place.rt: where a part's reading begins

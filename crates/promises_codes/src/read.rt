@@ -2,31 +2,31 @@
 ghost use Rattle.std.specs.Prelude.{min};
 ghost use Rattle.bits.specs.Codec.{f};
 ghost use Rattle.bits.specs.Codes.{uvlc, su, leb128};
-ghost use Rattle.bits.specs.Answers.{Said};
-ghost use Rattle.bits.specs.Answers as form;
+ghost use Rattle.reader.specs.Reading.{Said};
 
-use bits::answer::*;
+use bits::answer::Refusal;
+use reader::BitReader;
 
-pub fn f(s: &[u8], c: Cursor, width: u32) -> GotNumber
-    ensures { Said form.number (f (min width 32) 0 0).dec s.now c result }
+pub fn f(r: &mut BitReader, width: u32) -> Result<u32, Refusal>
+    ensures { Said (f (min width 32) 0 0).dec r.old r.new result }
 {
-    reader::f(s, c, width)
+    r.f(width)
 }
 
-pub fn su(s: &[u8], c: Cursor, width: u32) -> GotSigned
-    ensures { Said form.signed (su (min width 32) 0 0).dec s.now c result }
+pub fn su(r: &mut BitReader, width: u32) -> Result<i32, Refusal>
+    ensures { Said (su (min width 32) 0 0).dec r.old r.new result }
 {
-    reader::su(s, c, width)
+    r.su(width)
 }
 
-pub fn uvlc(s: &[u8], c: Cursor, element: u8, index: u8) -> GotNumber
-    ensures { Said form.number (uvlc element index).dec s.now c result }
+pub fn uvlc(r: &mut BitReader, element: u8, index: u8) -> Result<u32, Refusal>
+    ensures { Said (uvlc element index).dec r.old r.new result }
 {
-    reader::uvlc(s, c, element, index)
+    r.uvlc(element, index)
 }
 
-pub fn leb128(s: &[u8], c: Cursor) -> GotSize
-    ensures { Said form.size (leb128 8).dec s.now c result }
+pub fn leb128(r: &mut BitReader) -> Result<u64, Refusal>
+    ensures { Said (leb128 8).dec r.old r.new result }
 {
-    reader::leb128(s, c)
+    r.leb128()
 }

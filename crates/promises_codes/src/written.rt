@@ -1,30 +1,32 @@
 // f(n), su(n), uvlc and leb128, written.
 ghost use Rattle.std.specs.Prelude.{min};
-ghost use Rattle.bits.specs.Walk.{Walked, unsigned};
+ghost use Rattle.bits.specs.Walk.{unsigned};
 ghost use Rattle.bits.specs.Codes.{uvlc, su, leb128};
+ghost use Rattle.writer.specs.Walked.{Walked};
 
 use bits::answer::*;
+use writer::BitWriter;
 
-pub fn f(out: &mut [u8], c: Cursor, width: u32, value: u32, element: u8, index: u8) -> Step
-    ensures { Walked (unsigned width value element index) c out.old result out.new }
+pub fn f(w: &mut BitWriter, width: u32, value: u32, element: u8, index: u8) -> Result<(), Refusal>
+    ensures { Walked (unsigned width value element index) w.old w.new result }
 {
-    writer::f(out, c, width, value, element, index)
+    w.f(width, value, element, index)
 }
 
-pub fn su(out: &mut [u8], c: Cursor, width: u32, value: i32, element: u8, index: u8) -> Step
-    ensures { Walked ((su (min width 32) element index).enc value) c out.old result out.new }
+pub fn su(w: &mut BitWriter, width: u32, value: i32, element: u8, index: u8) -> Result<(), Refusal>
+    ensures { Walked ((su (min width 32) element index).enc value) w.old w.new result }
 {
-    writer::su(out, c, width, value, element, index)
+    w.su(width, value, element, index)
 }
 
-pub fn uvlc(out: &mut [u8], c: Cursor, value: u32, element: u8, index: u8) -> Step
-    ensures { Walked ((uvlc element index).enc value) c out.old result out.new }
+pub fn uvlc(w: &mut BitWriter, value: u32, element: u8, index: u8) -> Result<(), Refusal>
+    ensures { Walked ((uvlc element index).enc value) w.old w.new result }
 {
-    writer::uvlc(out, c, value, element, index)
+    w.uvlc(value, element, index)
 }
 
-pub fn leb128(out: &mut [u8], c: Cursor, value: u32) -> Step
-    ensures { Walked ((leb128 8).enc value) c out.old result out.new }
+pub fn leb128(w: &mut BitWriter, value: u32) -> Result<(), Refusal>
+    ensures { Walked ((leb128 8).enc value) w.old w.new result }
 {
-    writer::leb128(out, c, value)
+    w.leb128(value)
 }

@@ -8,19 +8,18 @@ ghost use Rattle.sequence.specs.Sequence.{sequence_header};
 ghost use Rattle.sequence_reader.specs.Reader.{Answers};
 ghost use Rattle.sequence_reader.specs.Payload.{Hands};
 
-use bits::answer::Answer;
+use bits::answer::Refusal;
 use obu::header::ObuHeader;
 use sequence::record::SequenceHeaderObu;
 use sequence_reader::place;
-use sequence_reader::read::Outcome;
 
-pub fn write_sequence_header(record: SequenceHeaderObu, out: &mut [u8]) -> Answer
+pub fn write_sequence_header(record: SequenceHeaderObu, out: &mut [u8]) -> Result<u32, Refusal>
     ensures { Writes (sequence_header.enc «record») out.old result out.new }
 {
     sequence_writer::write::write_sequence_header(record, out)
 }
 
-pub fn write_temporal_delimiter(header: ObuHeader, out: &mut [u8]) -> Answer
+pub fn write_temporal_delimiter(header: ObuHeader, out: &mut [u8]) -> Result<u32, Refusal>
     ensures { Writes (temporal_delimiter header) out.old result out.new }
 {
     obu::delimiter::write_temporal_delimiter(header, out)
@@ -32,7 +31,10 @@ pub fn is_temporal_delimiter(input: &[u8]) -> bool
     obu::delimiter::is_temporal_delimiter(input)
 }
 
-pub fn read_sequence_header(input: &[u8], numbers: &mut [u32; place::NUMBERS]) -> Outcome
+pub fn read_sequence_header(
+    input: &[u8],
+    numbers: &mut [u32; place::NUMBERS],
+) -> Result<(), Refusal>
     ensures { Answers input.now numbers.old result numbers.new }
 {
     sequence_reader::read::read_sequence_header(input, numbers)

@@ -9,7 +9,7 @@ ghost use Rattle.loop_filter.specs.LoopFilter.{loop_filter_params, no_old};
 ghost use Rattle.cdef.specs.Cdef.{cdef_params};
 ghost use Rattle.restoration.specs.Restoration.{lr_params};
 
-use bits::answer::Answer;
+use bits::answer::Refusal;
 use cdef::record::*;
 use loop_filter::record::*;
 use quantization::record::*;
@@ -21,7 +21,7 @@ pub fn write_quantization_params(
     context: QuantizationContext,
     out: &mut [u8],
     place: u32,
-) -> Answer
+) -> Result<u32, Refusal>
     ensures { Writes ((quantization_params context).enc q) place out.old result out.new }
 {
     quantization::write::write_quantization_params(q, context, out, place)
@@ -32,7 +32,7 @@ pub fn write_segmentation_params(
     context: SegmentationContext,
     out: &mut [u8],
     place: u32,
-) -> Answer
+) -> Result<u32, Refusal>
     ensures { Writes ((segmentation_params context).enc p) place out.old result out.new }
 {
     segmentation::write::write_segmentation_params(p, context, out, place)
@@ -43,13 +43,18 @@ pub fn write_loop_filter_params(
     context: LoopFilterContext,
     out: &mut [u8],
     place: u32,
-) -> Answer
+) -> Result<u32, Refusal>
     ensures { Writes ((loop_filter_params context no_old).enc p) place out.old result out.new }
 {
     loop_filter::write::write_loop_filter_params(p, context, out, place)
 }
 
-pub fn write_cdef_params(p: CdefParams, context: CdefContext, out: &mut [u8], place: u32) -> Answer
+pub fn write_cdef_params(
+    p: CdefParams,
+    context: CdefContext,
+    out: &mut [u8],
+    place: u32,
+) -> Result<u32, Refusal>
     ensures { Writes ((cdef_params context).enc p) place out.old result out.new }
 {
     cdef::write::write_cdef_params(p, context, out, place)
@@ -60,7 +65,7 @@ pub fn write_lr_params(
     context: LoopRestorationContext,
     out: &mut [u8],
     place: u32,
-) -> Answer
+) -> Result<u32, Refusal>
     ensures { Writes ((lr_params context).enc p) place out.old result out.new }
 {
     restoration::write::write_lr_params(p, context, out, place)

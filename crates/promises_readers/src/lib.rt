@@ -15,7 +15,7 @@ ghost use Rattle.cdef_reader.specs.Layout.{cdef_place};
 ghost use Rattle.restoration.specs.Restoration.{lr_params};
 ghost use Rattle.restoration_reader.specs.Layout.{lr_place};
 
-use bits::answer::Answer;
+use bits::answer::Refusal;
 use cdef::record::CdefContext;
 use loop_filter::record::LoopFilterContext;
 use quantization::record::QuantizationContext;
@@ -27,7 +27,7 @@ pub fn read_quantization_params(
     place: u32,
     context: QuantizationContext,
     n: &mut [i32; 13],
-) -> Answer
+) -> Result<u32, Refusal>
     ensures { Tells quantization_place (quantization_params context) place input.now (replicate 13 (pos 0)) result n.new }
 {
     quantization_reader::read::read_quantization_params(input, place, context, n)
@@ -38,7 +38,7 @@ pub fn read_segmentation_params(
     place: u32,
     context: SegmentationContext,
     n: &mut [i32; 133],
-) -> Answer
+) -> Result<u32, Refusal>
     ensures { Tells segmentation_place (segmentation_params context) place input.now (replicate 133 (pos 0)) result n.new }
 {
     segmentation_reader::read::read_segmentation_params(input, place, context, n)
@@ -50,13 +50,18 @@ pub fn read_loop_filter_params(
     context: LoopFilterContext,
     previous: &[i32; 10],
     n: &mut [i32; 20],
-) -> Answer
+) -> Result<u32, Refusal>
     ensures { Tells loop_filter_place (loop_filter_params context (old_deltas previous.now)) place input.now (replicate 20 (pos 0)) result n.new }
 {
     loop_filter_reader::read::read_loop_filter_params(input, place, context, previous, n)
 }
 
-pub fn read_cdef_params(input: &[u8], place: u32, context: CdefContext, n: &mut [i32; 38]) -> Answer
+pub fn read_cdef_params(
+    input: &[u8],
+    place: u32,
+    context: CdefContext,
+    n: &mut [i32; 38],
+) -> Result<u32, Refusal>
     ensures { Tells cdef_place (cdef_params context) place input.now (replicate 38 (pos 0)) result n.new }
 {
     cdef_reader::read::read_cdef_params(input, place, context, n)
@@ -67,7 +72,7 @@ pub fn read_lr_params(
     place: u32,
     context: LoopRestorationContext,
     n: &mut [i32; 14],
-) -> Answer
+) -> Result<u32, Refusal>
     ensures { Tells lr_place (lr_params context) place input.now (replicate 14 (pos 0)) result n.new }
 {
     restoration_reader::read::read_lr_params(input, place, context, n)

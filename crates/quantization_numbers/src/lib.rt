@@ -8,10 +8,14 @@ ghost use Rattle.parts.specs.Written.{Writes};
 ghost use Rattle.quantization_numbers.specs.Numbers.{quantization_walk};
 
 use crate::record::*;
-use bits::answer::Answer;
+use bits::answer::Refusal;
 use quantization::write::write_given;
 
-pub fn write_quantization_numbers(record: &[i32; 13], out: &mut [u8], place: u32) -> Answer
+pub fn write_quantization_numbers(
+    record: &[i32; 13],
+    out: &mut [u8],
+    place: u32,
+) -> Result<u32, Refusal>
     ensures { Writes (quantization_walk «record».now) place out.old result out.new }
 {
     write_given(

@@ -1,4 +1,4 @@
-// The record of the quantization parameters from its numbers, the context first.
+// The record of the quantization parameters from its numbers, the context first. (No `From`: neither the array nor the record is of this crate.)
 ghost use Rattle.std.specs.Prelude.{◌≡◌};
 ghost use Rattle.quantization.specs.Quantization.{deltas_of};
 ghost use Rattle.quantization_numbers.specs.Numbers.{quantization_context, quantization_params, without_deltas};

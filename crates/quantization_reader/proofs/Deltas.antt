@@ -1,71 +1,72 @@
 -- How the deltas and the matrices are read, of whatever element, and what is stored where they are not coded.
-use mathlib.Core.Path.{◌≡◌, refl}
+use mathlib.Core.Path.{refl, subst}
 use mathlib.Core.List.{List}
-use mathlib.Core.Bool.{true}
+use mathlib.Core.Bool.{Bool, true, false}
 use Prim.Native.Nat.{ℕ}
 use native.Mathlib.Omega.{arith}
-use lib.Dec.{ltb}
 use lib.IntN.{ℤ, pos}
 use lib.ListN.{set}
 use mir.Syntax.{w32}
 use mir.Val.{SFits, to_z, of_z}
 use mir.Facts.{to_z-of_z}
-use Rattle.bits.specs.Codec.{Codec, f, absent, inferred, choose, merged, ◌▷◌}
+use Rattle.std.specs.Prelude.{Result, Ok}
+use Rattle.bits.specs.Codec.{f, absent, inferred, choose, merged, ◌▷◌, Nil, nil}
 use Rattle.bits.specs.Codes.{su}
-use Rattle.bits.specs.Answers.{reading, found, Moved}
-use Rattle.bits.specs.declared.answer.Cursor.{Cursor}
+use Rattle.bits.specs.Answers.{found, Moved}
 use Rattle.bits.specs.declared.answer.Refusal.{Refusal}
-use Rattle.bits.specs.declared.answer.Step.{Step}
-use Rattle.bits.specs.declared.answer.Step.TheVariants.{Next, Refused}
-use Rattle.fill.specs.Fills.{Layout, same, natural, at, whole, ◌▸◌, Fills}
-use Rattle.fill.proofs.Filling.{Laid, laid, final_at, halted, onward_local, last_at, next_at, known}
+use Rattle.reader.specs.declared.BitReader.{BitReader}
+use Rattle.reader.specs.Reading.{Said, said, completes}
+use Rattle.reader.proofs.Reading.{reads, By, by, read_by, fixed_reads}
+use Rattle.fill.specs.Fills.{at, ◌▸◌, Fills}
+use Rattle.fill.proofs.Filling.{Laid, laid, final}
+use Rattle.fill.proofs.Signs.{natural_fits, signed_fillings}
 use Rattle.parts.specs.Codes.{inferred_signed}
 use Rattle.parts_reader.specs.Reading.{delta}
-use Rattle.parts_reader.proofs.Storing.{part_fillings, part_halts, number_fits, by_signed}
+use Rattle.parts_reader.proofs.Storing.{by_signed, put_fit, fit_last, put_same, same_last}
 use Rattle.parts_reader.proofs.Deltas.{delta_fits}
-use Rattle.quantization.specs.Quantization.{read_delta_q, v_inferred, no_uv_deltas, one_plane}
+use Rattle.bits.specs.Elements.{delta_q_v_dc, delta_q_v_ac, qm_v}
+use Rattle.bits.proofs.Laws.{got-value}
+use Rattle.quantization.specs.Quantization.{read_delta_q, v_inferred, v_deltas, no_uv_deltas, one_plane, v_matrix}
 use Rattle.quantization_reader.specs.Layout.{v_place, uv_place, chroma_place, matrices_place}
 
 -- a delta is read whatever its element; without its flag it is 0
-as_delta : (e : ℕ) {M : Type 0} {l : Layout M ℤ} {xs : List ℕ} {p : Cursor} {u : Step} {m n : M} → Fills l (delta (pos 0)).dec xs p u m n → Fills l (read_delta_q e).dec xs p u m n
+by_delta : (e : ℕ) → By (read_delta_q e) (delta (pos 0)).dec
 unfolding delta read_delta_q merged ◌▷◌ choose su
-as_delta e i = i
+by_delta e = by (λ bs. refl)
 
-module _ (e : ℕ) {xs : List ℕ} {p : Cursor} {u : Step} {w v : ℤ} (f : Fills whole (delta (pos 0)).dec xs p u w v) where
-  pub final_delta : (i : ℕ) {m : List ℤ} → Laid (at (pos 0) i same) (read_delta_q e) xs p u m (set m i v)
-  final_delta i = final_at (pos 0) i same (read_delta_q e) (as_delta e f)
+pub delta_of : (e : ℕ) {p q : BitReader} {r : Result ℤ Refusal} → Said (delta (pos 0)).dec p q r → Said (read_delta_q e).dec p q r
+delta_of e s = read_by (read_delta_q e) s (by_delta e)
 
-  module _ {B : Type 0} (k : ℤ → Codec B) {m z : List ℤ} where
-    pub halted_delta : {y : Refusal} → u ≡ Refused y → {l : Layout (List ℤ) (ℤ × B)} → Laid l (read_delta_q e ▷ k) xs p u m z
-    halted_delta {y} h = halted (read_delta_q e) k {y = y} h (as_delta e f)
-
-    pub onward_delta : (i : ℕ) (j : Layout (List ℤ) B) {q : Cursor} {s : Step} → u ≡ Next q → Laid j (k v) xs q s (set m i v) z → Laid (at (pos 0) i same ▸ j) (read_delta_q e ▷ k) xs p s m z
-    onward_delta i j h g = onward_local (pos 0) i same j (read_delta_q e) k (as_delta e f) h g
-
-    -- a delta in a variable of its own, which holds the number's bits
-    pub onward_kept : (i : ℕ) (j : Layout (List ℤ) B) {q : Cursor} {s : Step} → u ≡ Next q → Laid j (k (to_z w32 (of_z w32 v))) xs q s (set m i (to_z w32 (of_z w32 v))) z → Laid (at (pos 0) i same ▸ j) (read_delta_q e ▷ k) xs p s m z
-    onward_kept i j h g = onward_delta i j h (rw (to_z-of_z (delta_fits (pos 0) (record { sfits = omega arith }) f h)) at g)
+pub delta_small : {p q : BitReader} {z : ℤ} → Said (delta (pos 0)).dec p q (Ok z) → SFits w32 z
+delta_small s = delta_fits (pos 0) (record { sfits = omega arith }) s
 
 -- the deltas of V, where they are those of U
-pub same-deltas : (dc ac : ℤ) → SFits w32 dc → SFits w32 ac → {xs : List ℕ} {p : Cursor} {m : List ℤ} → Laid v_place (v_inferred dc ac) xs p (Next p) m (set (set m 7 (to_z w32 (of_z w32 dc))) 8 (to_z w32 (of_z w32 ac)))
+pub same-deltas : (dc ac : ℤ) → SFits w32 dc → SFits w32 ac → {p : BitReader} {m : List ℤ} → Laid v_place (v_inferred dc ac) p p (Ok nil) m (set (set m 7 (to_z w32 (of_z w32 dc))) 8 (to_z w32 (of_z w32 ac)))
 unfolding v_inferred v_place
-same-deltas dc ac d a = rw (to_z-of_z d, to_z-of_z a) (next_at _ dc (by_signed _ dc) (pos 0) 7 same _ _ (last_at _ ac (by_signed _ ac) (pos 0) 8 same ac refl))
+same-deltas dc ac d a =
+    let u = inferred_signed delta_q_v_dc dc in
+    let v = inferred_signed delta_q_v_ac ac in
+    put_same 7 u (fixed_reads u (by_signed _ dc)) d _ (λ _. v) (same_last 8 v (fixed_reads v (by_signed _ ac)) a refl)
+
+-- the deltas of V, by those of U that a function read
+pub final_v : (diff : Bool) (dc ac : ℤ) → SFits w32 dc → SFits w32 ac → {p q : BitReader} {g : Result Nil Refusal} {m z : List ℤ}
+    → Fills v_place (v_deltas diff (to_z w32 (of_z w32 dc)) (to_z w32 (of_z w32 ac))).dec p q g m z → Laid v_place (v_deltas diff dc ac) p q g m z
+final_v diff dc ac d a f = final (v_deltas diff dc ac) (rw (to_z-of_z d, to_z-of_z a) at f) refl
 
 -- qm_v, where it is qm_u
-pub known_number : (n d i : ℕ) {xs : List ℕ} {p q c : Cursor} {u : Step} {w v : ℕ} {m : List ℤ} → ltb n 32 ≡ true → Fills whole (f n 0 0).dec xs p u w v → u ≡ Next q
-    → Laid (at (pos 0) i natural) (inferred d 0 v) xs c (Next c) m (set m i (to_z w32 (of_z w32 (pos v))))
-known_number n d i {v = v} h r e = rw (to_z-of_z (number_fits n h r e)) (known d 0 v (pos 0) i natural (pos v) refl)
+pub v_matrix_fits : (separate : Bool) (u : ℕ) → SFits w32 (pos u) → {p q : BitReader} {v : ℕ} → Said (v_matrix separate u).dec p q (Ok v) → SFits w32 (pos v)
+unfolding v_matrix choose inferred found
+v_matrix_fits true u h s = natural_fits 4 qm_v 0 s refl
+v_matrix_fits false u h s = subst (λ (x : ℕ). SFits w32 (pos x)) (got-value (reads s).finds) h
 
 -- one plane, and no matrices: nothing is coded
-module _ {xs : List ℕ} {p : Cursor} {m : List ℤ} where
-  pub no_chroma : Laid chroma_place one_plane xs p (Next p) m (set (set (set (set (set m 4 (pos 0)) 5 (pos 0)) 6 (pos 0)) 7 (pos 0)) 8 (pos 0))
+module _ {p : BitReader} {m : List ℤ} where
+  pub no_chroma : Laid chroma_place one_plane p p (Ok nil) m (set (set (set (set (set m 4 (pos 0)) 5 (pos 0)) 6 (pos 0)) 7 (pos 0)) 8 (pos 0))
   unfolding chroma_place uv_place v_place one_plane no_uv_deltas v_inferred ◌▸◌ at ◌▷◌ absent inferred_signed found Moved
-  no_chroma = laid (reading (record { finds = refl; moves = refl }))
+  no_chroma = laid (completes (said refl (record { finds = refl; moves = refl })))
 
-  pub no_matrices : Laid matrices_place (absent (0, (0, 0))) xs p (Next p) m (set (set (set m 10 (pos 0)) 11 (pos 0)) 12 (pos 0))
+  pub no_matrices : Laid matrices_place (absent (0, (0, 0))) p p (Ok nil) m (set (set (set m 10 (pos 0)) 11 (pos 0)) 12 (pos 0))
   unfolding matrices_place ◌▸◌ at absent found Moved
-  no_matrices = laid (reading (record { finds = refl; moves = refl }))
+  no_matrices = laid (completes (said refl (record { finds = refl; moves = refl })))
 
-pub ruleset delta_fillings = (part_fillings, known_number, no_chroma, no_matrices, same-deltas, final_delta, onward_delta, onward_kept)
-
-pub ruleset delta_halts = (delta_fillings, part_halts, halted_delta)
+pub ruleset delta_fillings = (v_matrix_fits, signed_fillings, put_fit, fit_last, put_same, same_last, delta_of, delta_small, same-deltas, no_chroma, no_matrices)

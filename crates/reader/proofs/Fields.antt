@@ -11,14 +11,13 @@ use lib.Seq.{drop_at}
 use lib.Dec.{lit<, eqb}
 use lib.Pow.{pow_mono, pow_pos, pow-add}
 use lib.Arith.{digits_lt}
+use Rattle.std.specs.Prelude.{Ok, Err}
 use Rattle.bits.specs.Bits.{Bits, bit, bit_at, to_bits, from_bits, limit, from, end}
 use Rattle.bits.specs.Codec.{Got, got, stop, and_then, take_bits, f, flag, nil}
-use Rattle.bits.specs.Answers.{Said, said, found, Moved, number}
-use Rattle.bits.specs.Answers as form
-use Rattle.bits.specs.declared.answer.Cursor.{Cursor}
+use Rattle.bits.specs.Answers.{found, Moved}
 use Rattle.bits.specs.declared.answer.Refusal.TheVariants.{Ends}
-use Rattle.bits.specs.declared.answer.GotNumber.TheVariants as N
-use Rattle.bits.specs.declared.answer.GotFlag.TheVariants as F
+use Rattle.reader.specs.declared.BitReader.{BitReader}
+use Rattle.reader.specs.Reading.{Said, said}
 use Rattle.bits.proofs.Numbers.{length-to_bits, from-to, pow_two}
 use Rattle.bits.proofs.Leaves.{take_inv}
 use Rattle.bits.proofs.Storing.{below_or}
@@ -157,37 +156,41 @@ read_taken n u xs at ys h =
     sym (read_all n (from xs at)) ∙ r ∙ ap (got (u % 2 ^ n)) (sym d)
 
 -- the answer of a field of w bits, where there are m
-module _ (n w m : ℕ) (xs : List ℕ) (c : Cursor) (e : w ≡ min n 32) (q : m ≡ end xs - c.at) (h : w ≤ m) where
-  pub field_fits : c.at < 2 ^ 64 → c.at + w < 2 ^ 64
-  field_fits l = omega (arith, end_is xs)
+module _ (n w m : ℕ) (r : BitReader) (e : w ≡ min n 32) (q : m ≡ end r.bytes.now - r.at) where
+  pub field_fits : w ≤ m → r.at < 2 ^ 64 → r.at + w < 2 ^ 64
+  field_fits h l = omega (arith, end_is r.bytes.now)
 
-  pub field_there : {v : ℕ} → (f w 0 0).dec (from xs c.at) ≡ got v (from xs (c.at + w)) → Said number (f (min n 32) 0 0).dec xs c (N.Value v (record { at = c.at + w }))
+  pub field_there : {v : ℕ} → w ≤ m → (f w 0 0).dec (from r.bytes.now r.at) ≡ got v (from r.bytes.now (r.at + w)) → Said (f (min n 32) 0 0).dec r (record { bytes = r.bytes; at = r.at + w }) (Ok v)
   unfolding found Moved
-  field_there s = rw (← e) (said (record { finds = s; moves = omega arith }))
+  field_there h s = rw (← e) (said refl (record { finds = s; moves = omega arith }))
 
-pub field-ends : (n w m : ℕ) {xs : List ℕ} {c : Cursor} → w ≡ min n 32 → m ≡ end xs - c.at → m < w → Said number (f (min n 32) 0 0).dec xs c (N.Refused Ends)
-unfolding f found Moved
-field-ends n w m {xs} {c} e q h = rw (← e) (said (record { finds = rw (take_short w (from xs c.at) (rw (length_from xs c.at) (omega arith))); moves = nil }))
+  pub field-ends : m < w → Said (f (min n 32) 0 0).dec r r (Err Ends)
+  unfolding f found Moved
+  field-ends h = rw (← e) (said refl (record { finds = rw (take_short w (from r.bytes.now r.at) (rw (length_from r.bytes.now r.at) (omega arith))); moves = nil }))
+
+pub ruleset fields = (field_fits, field_there, field-ends)
 
 -- one bit, with m bits from the place on
-module _ (xs : List ℕ) (c : Cursor) (m : ℕ) (e : m ≡ end xs - c.at) where
-  pub flag-ends : m ≡ 0 → Said form.flag flag.dec xs c (F.Refused Ends)
+module _ (r : BitReader) (m : ℕ) (e : m ≡ end r.bytes.now - r.at) where
+  pub flag-ends : m ≡ 0 → Said flag.dec r r (Err Ends)
   unfolding flag found Moved
-  flag-ends h = said (record { finds = rw (from_end xs c.at (omega arith)); moves = nil })
+  flag-ends h = said refl (record { finds = rw (from_end r.bytes.now r.at (omega arith)); moves = nil })
 
   module _ (h : m ≡ 0 → ⊥) where
-    there : c.at < end xs
-    there = ⊎_elim (λ (l : c.at < end xs). l) (λ (l : end xs ≤ c.at). absurd (h (omega arith))) (below_or c.at (end xs))
+    there : r.at < end r.bytes.now
+    there = ⊎_elim (λ (l : r.at < end r.bytes.now). l) (λ (l : end r.bytes.now ≤ r.at). absurd (h (omega arith))) (below_or r.at (end r.bytes.now))
 
-    pub flag_byte : c.at / 8 < length xs
-    flag_byte = byte_there xs c.at there
+    pub flag_byte : r.at / 8 < length r.bytes.now
+    flag_byte = byte_there r.bytes.now r.at there
 
-    pub flag-place : c.at + 1 < 2 ^ 64
-    flag-place = omega (arith, place_there xs c.at there)
+    pub flag-place : r.at + 1 < 2 ^ 64
+    flag-place = omega (arith, place_there r.bytes.now r.at there)
 
-    pub flag_there : (u : ℕ) → u ≡ get_or xs (c.at / 8) 0 / 2 ^ (7 - c.at % 8) % 2 ^ 1 → Said form.flag flag.dec xs c (F.Value (eqb u 1) (record { at = c.at + 1 }))
+    pub flag_there : (u : ℕ) → u ≡ get_or r.bytes.now (r.at / 8) 0 / 2 ^ (7 - r.at % 8) % 2 ^ 1 → Said flag.dec r (record { bytes = r.bytes; at = r.at + 1 }) (Ok (eqb u 1))
     unfolding flag found Moved bit_at
     flag_there u v =
-        let n : c.at + 1 ≡ suc c.at = omega arith in
+        let n : r.at + 1 ≡ suc r.at = omega arith in
         let t = there in
-        said (record { finds = rw (from-bit xs c.at t, n, v) refl; moves = omega arith })
+        said refl (record { finds = rw (from-bit r.bytes.now r.at t, n, v) refl; moves = omega arith })
+
+pub ruleset flags = (flag-ends, flag_byte, flag-place, flag_there)

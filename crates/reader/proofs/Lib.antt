@@ -1,3 +1,4 @@
+pub mod Reading
 pub mod Fields
 pub mod Counting
 pub mod Values

@@ -1,4 +1,4 @@
-// The bit reader: the codes of 4.10 read. Each step answers a value and the place behind it, or the refusal.
+// The bit reader: the codes of 4.10 read. Each answers a value, and the reader goes on behind it; or the refusal.
 #![tactic(auto)]
 
 mod number; // number.rt: the values of codes
@@ -7,12 +7,18 @@ ghost use Rattle.std.specs.Prelude.{◌≡◌, ◌++◌, min, ◌+◌, ◌-◌, 
 ghost use Rattle.bits.specs.Bits.{end, from, to_bits};
 ghost use Rattle.bits.specs.Codec.{got, f, flag};
 ghost use Rattle.bits.specs.Codes.{unary, uvlc, su, leb128};
-ghost use Rattle.bits.specs.Answers.{Said};
-ghost use Rattle.bits.specs.Answers as form;
+ghost use Rattle.reader.specs.Reading.{Said};
 
 use crate::number::*;
-use bits::answer::*;
+use bits::answer::{LIMIT, Refusal};
 use bits::number::*;
+
+// The bits of `bytes` from the place `at` on, counted from the first byte's top bit.
+#[derive(Drop)]
+pub struct BitReader<'a> {
+    pub bytes: &'a [u8],
+    pub at: usize,
+}
 
 // Where the bits of a slice end.
 fn end(s: &[u8]) -> usize
@@ -24,14 +30,6 @@ fn end(s: &[u8]) -> usize
     } else {
         LIMIT
     }
-}
-
-// How many bits there are from a place on.
-pub fn rest(s: &[u8], at: usize) -> usize
-    ensures { result ≡ end s.now - at }
-{
-    let last = end(s);
-    if at < last { last - at } else { 0 }
 }
 
 // The `width` bits above the d low ones of the byte x.
@@ -96,110 +94,103 @@ fn by_bytes(s: &[u8], at: usize, width: u32) -> u32
     value as u32
 }
 
-// f(n); a width over 32, which is that of the value, counts as 32.
-pub fn f(s: &[u8], c: Cursor, width: u32) -> GotNumber
-    ensures { Said form.number (f (min width 32) 0 0).dec s.now c result }
-{
-    let width = smaller(width, 32);
-    let at = c.at;
-    let left = rest(s, at);
-    if left < width as usize {
-        return GotNumber::Refused(Refusal::Ends);
+impl<'a> BitReader<'a> {
+    pub fn new(bytes: &'a [u8], at: usize) -> BitReader<'a>
+        ensures { (result.bytes ≡ bytes.entry) × (result.at ≡ at) }
+    {
+        BitReader { bytes, at }
     }
-    let next = Cursor {
-        at: at + width as usize,
-    };
-    if width as usize + 14 <= left {
-        return GotNumber::Value(by_window(s, at, width), next);
+
+    // How many bits are left.
+    pub fn rest(&self) -> usize
+        ensures { result ≡ end self.now.bytes.now - self.now.at }
+    {
+        let last = end(self.bytes);
+        if self.at < last { last - self.at } else { 0 }
     }
-    GotNumber::Value(by_bytes(s, at, width), next)
-}
 
-// f(1) as a flag.
-pub fn flag(s: &[u8], c: Cursor) -> GotFlag
-    ensures { Said form.flag flag.dec s.now c result }
-{
-    let at = c.at;
-    if rest(s, at) == 0 {
-        return GotFlag::Refused(Refusal::Ends);
+    // f(n); a width over 32, which is that of the value, counts as 32.
+    #[tactic(auto, using(crate::proofs::Fields::fields))]
+    pub fn f(&mut self, width: u32) -> Result<u32, Refusal>
+        ensures { Said (f (min width 32) 0 0).dec self.old self.new result }
+    {
+        let width = smaller(width, 32);
+        let at = self.at;
+        let left = self.rest();
+        if left < width as usize {
+            return Err(Refusal::Ends);
+        }
+        self.at = at + width as usize;
+        if width as usize + 14 <= left {
+            return Ok(by_window(self.bytes, at, width));
+        }
+        Ok(by_bytes(self.bytes, at, width))
     }
-    let room = 7 - (at % 8) as u32;
-    GotFlag::Value(chunk(s[at / 8], 1, room) == 1, Cursor { at: at + 1 })
-}
 
-// The zeros before the next one, at most 31; the one is not taken.
-fn unary(s: &[u8], c: Cursor, element: u8, index: u8) -> GotNumber
-    ensures { Said form.number (unary 31 element index) s.now c result }
-{
-    let mut at = c;
-    let mut zeros: u32 = 0;
-    loop {
-        let g = flag(s, at);
-        let GotFlag::Value(one, next) = g else {
-            return GotNumber::Refused(why_flag(g));
-        };
-        if one {
-            return GotNumber::Value(zeros, at);
+    // f(1) as a flag.
+    #[tactic(auto, using(crate::proofs::Fields::flags))]
+    pub fn flag(&mut self) -> Result<bool, Refusal>
+        ensures { Said flag.dec self.old self.new result }
+    {
+        let at = self.at;
+        if self.rest() == 0 {
+            return Err(Refusal::Ends);
         }
-        if zeros == 31 {
-            return GotNumber::Refused(Refusal::Inconsistent(element, index));
-        }
-        at = next;
-        zeros += 1;
+        self.at = at + 1;
+        let room = 7 - (at % 8) as u32;
+        Ok(chunk(self.bytes[at / 8], 1, room) == 1)
     }
-}
 
-// uvlc: L - 1 zeros, and then the value plus 1 in L bits.
-pub fn uvlc(s: &[u8], c: Cursor, element: u8, index: u8) -> GotNumber
-    ensures { Said form.number (uvlc element index).dec s.now c result }
-{
-    let g = unary(s, c, element, index);
-    let GotNumber::Value(zeros, c) = g else {
-        return g;
-    };
-    let length = zeros + 1;
-    let g = f(s, c, length);
-    let GotNumber::Value(plus_1, c) = g else {
-        return g;
-    };
-    GotNumber::Value(plus_1 - 1, c)
-}
-
-// su(n); a width over 32, which is that of the value, counts as 32.
-pub fn su(s: &[u8], c: Cursor, width: u32) -> GotSigned
-    ensures { Said form.signed (su (min width 32) 0 0).dec s.now c result }
-{
-    let width = smaller(width, 32);
-    let g = f(s, c, width);
-    let GotNumber::Value(v, c) = g else {
-        return GotSigned::Refused(why_number(g));
-    };
-    GotSigned::Value(su_value(v, width), c)
-}
-
-// leb128 in at most eight bytes, the low seven bits first.
-pub fn leb128(s: &[u8], c: Cursor) -> GotSize
-    ensures { Said form.size (leb128 8).dec s.now c result }
-{
-    let mut at = c;
-    let mut bytes: u32 = 0;
-    let mut unit: u64 = 1;
-    let mut low: u64 = 0;
-    let size = loop {
-        let g = f(s, at, 8);
-        let GotNumber::Value(byte, next) = g else {
-            return GotSize::Refused(why_number(g));
-        };
-        at = next;
-        low += (byte % 128) as u64 * unit;
-        if byte < 128 {
-            break low;
+    // The zeros before the next one, at most 31; the one is not taken.
+    #[tactic(auto, using(crate::proofs::Counting::counts))]
+    fn unary(&mut self, element: u8, index: u8) -> Result<u32, Refusal>
+        ensures { Said (unary 31 element index) self.old self.new result }
+    {
+        for zeros in 0..32 {
+            let at = self.at;
+            if self.flag()? {
+                self.at = at;
+                return Ok(zeros);
+            }
         }
-        bytes += 1;
-        if bytes == 8 {
-            return GotSize::Refused(Refusal::Size);
+        Err(Refusal::Inconsistent(element, index))
+    }
+
+    // uvlc: L - 1 zeros, and then the value plus 1 in L bits.
+    #[tactic(auto, using(crate::proofs::Values::uvlcs))]
+    pub fn uvlc(&mut self, element: u8, index: u8) -> Result<u32, Refusal>
+        ensures { Said (uvlc element index).dec self.old self.new result }
+    {
+        let zeros = self.unary(element, index)?;
+        let plus_1 = self.f(zeros + 1)?;
+        Ok(plus_1 - 1)
+    }
+
+    // su(n); a width over 32, which is that of the value, counts as 32.
+    #[tactic(auto, using(crate::proofs::Values::sus))]
+    pub fn su(&mut self, width: u32) -> Result<i32, Refusal>
+        ensures { Said (su (min width 32) 0 0).dec self.old self.new result }
+    {
+        let width = smaller(width, 32);
+        let v = self.f(width)?;
+        Ok(su_value(v, width))
+    }
+
+    // leb128 in at most eight bytes, the low seven bits first.
+    #[tactic(auto, using(crate::proofs::Counting::sizes))]
+    pub fn leb128(&mut self) -> Result<u64, Refusal>
+        ensures { Said (leb128 8).dec self.old self.new result }
+    {
+        let mut unit: u64 = 1;
+        let mut low: u64 = 0;
+        for _ in 0..8u32 {
+            let byte = self.f(8)?;
+            low += (byte % 128) as u64 * unit;
+            if byte < 128 {
+                return Ok(low);
+            }
+            unit *= 128;
         }
-        unit *= 128;
-    };
-    GotSize::Value(size, at)
+        Err(Refusal::Size)
+    }
 }

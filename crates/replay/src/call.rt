@@ -51,6 +51,7 @@ pub fn write(writer: Writer, words: &mut Words, buffer: &mut [u8], out: &mut Tex
     Some(())
 }
 
+// The arms stay apart: the borrow checker covers no bound `FnOnce(&mut [i32; N], ..)`, by which one function would make any of the calls.
 fn part(
     reader: PartReader,
     record: &[u32; place::NUMBERS],

@@ -9,7 +9,6 @@ use lines::answer::Text;
 use lines::input::{LineReader, TooLong};
 use lines::parse::Words;
 use std::io;
-use std::io::Read;
 
 // The answer of a line with a word; none, if it is malformed.
 fn answer(name: &[u8], words: &mut Words, buffer: &mut [u8], out: &mut Text) -> Option<()> {
@@ -22,7 +21,11 @@ fn answer(name: &[u8], words: &mut Words, buffer: &mut [u8], out: &mut Text) -> 
 }
 
 // A line with no word, and one whose first word begins with `#`, has no answer.
-fn answered(line: &[u8], buffer: &mut [u8], out: &mut Text) {
+fn answered(line: Result<&[u8], TooLong>, buffer: &mut [u8], out: &mut Text) {
+    let Ok(line) = line else {
+        out.text(b"bad\n");
+        return;
+    };
     let mut words = Words::new(line);
     if let Some(name) = words.next() {
         if !name.starts_with(b"#") && answer(name, &mut words, buffer, out).is_none() {
@@ -31,30 +34,15 @@ fn answered(line: &[u8], buffer: &mut [u8], out: &mut Text) {
     }
 }
 
-fn all<R: Read>(
-    rt: &impl Print,
-    lines: &mut LineReader<R>,
-    line: &mut [u8],
-    buffer: &mut [u8],
-    out: &mut [u8],
-) -> io::Result<()> {
-    for _ in 0..u64::MAX {
-        let mut out = Text::new(out);
-        match lines.next_line(line) {
-            Some(Ok(line)) => answered(line, buffer, &mut out),
-            Some(Err(TooLong)) => out.text(b"bad\n"),
-            None => return Ok(()),
-        }
-        rt.write_all(out.written())?;
-    }
-    Ok(())
-}
-
 fn main(rt: HostRuntime) -> io::Result<()> {
     let mut chunk = [0u8; 65536];
     let mut line = [0u8; 200000];
     let mut buffer = [0u8; 100000];
-    let mut out = [0u8; 200100];
+    let mut answers = [0u8; 200100];
     let mut lines = LineReader::new(rt.stdin(), &mut chunk);
-    all(&rt, &mut lines, &mut line, &mut buffer, &mut out)
+    lines.try_for_each(&mut line, |line| {
+        let mut out = Text::new(&mut answers);
+        answered(line, &mut buffer, &mut out);
+        rt.write_all(out.written())
+    })
 }

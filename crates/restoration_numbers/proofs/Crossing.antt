@@ -4,7 +4,7 @@ use mathlib.Core.List.{List}
 use Prim.Native.Nat.{ℕ}
 use lib.IntN.{ℤ}
 use Rattle.bits.specs.Walk.{run}
-use Rattle.bits.specs.declared.answer.Answer.{Answer}
+use Rattle.bits.specs.Written.{Answer}
 use Rattle.parts.specs.Written.{Writes}
 use Rattle.restoration.specs.Restoration as restoration
 use Rattle.restoration.specs.declared.record.LoopRestorationParams.{LoopRestorationParams}

@@ -1,4 +1,4 @@
-// The record of the restoration parameters from its numbers, the context first.
+// The record of the restoration parameters from its numbers, the context first. (No `From`: neither the array nor the record is of this crate.)
 ghost use Rattle.std.specs.Prelude.{◌≡◌};
 ghost use Rattle.restoration_numbers.specs.Numbers.{lr_context, lr_params};
 

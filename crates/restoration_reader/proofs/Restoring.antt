@@ -2,83 +2,103 @@
 use mathlib.Core.Path.{◌≡◌, refl, ap, ◌∙◌}
 use mathlib.Core.List.{List, [], ◌∷◌}
 use mathlib.Core.Bool.{Bool, true, false}
-use Prim.Native.Nat.{ℕ, ◌+◌, ◌*◌, ◌/◌, ◌%◌, ◌<◌}
+use Prim.Native.Nat.{ℕ, ◌+◌, ◌*◌, ◌/◌, ◌%◌, ◌<◌, ◌≤◌}
 use native.Mathlib.Omega.{arith}
 use lib.IntN.{ℤ, pos}
 use lib.ListN.{set}
 use mir.Syntax.{w32}
-use mir.Val.{Fits, SFits, to_z, of_z, bool_byte}
+use mir.Val.{Fits, SFits, to_z, of_z}
 use mir.Facts.{to_z-of_z}
+use Rattle.std.specs.Prelude.{Result, Ok, Err, IsErrAnd}
 use Rattle.bits.specs.Bits.{Bits, from_bits, from}
-use Rattle.bits.specs.Codec.{Codec, Got, got, stop, and_then, take_bits, f, flag, absent, inferred, inferred_flag, checked, ◌▷◌}
-use Rattle.bits.specs.Answers.{reading, found, Moved}
-use Rattle.bits.specs.declared.answer.Cursor.{Cursor}
+use Rattle.bits.specs.Codec.{Codec, Got, got, stop, and_then, take_bits, f, flag, absent, inferred, inferred_flag, choose, checked, merged, ◌▷◌, Nil, nil}
+use Rattle.bits.specs.Answers.{found, Moved}
 use Rattle.bits.specs.declared.answer.Refusal.{Refusal}
-use Rattle.bits.specs.declared.answer.Step.{Step}
-use Rattle.bits.specs.declared.answer.Step.TheVariants.{Next, Refused}
+use Rattle.bits.proofs.Laws.{stop-got, got-value}
 use Rattle.bits.proofs.Numbers.{from_lt}
-use Rattle.bits.proofs.Bounds.{f_small}
-use Rattle.bits.proofs.Reading as reading
-use Rattle.bits.proofs.Reading.{read_on, read_halt}
-use Rattle.fill.specs.Fills.{Layout, Way, same, natural, signed_bit, made, at, whole, ◌▸◌, Fills, fills}
-use Rattle.fill.proofs.Filling.{Laid, laid, begin, was_it, stopped, final, final_at, known_flag_made, group_on}
+use Rattle.reader.specs.declared.BitReader.{BitReader}
+use Rattle.reader.specs.Reading.{Said, said, completes}
+use Rattle.reader.proofs.Reading.{readings, start, one_of, on, halt, yes, no, nothing, stops, reads, fixed_reads, by_absent, f_fits}
+use Rattle.fill.specs.Fills.{Layout, Way, at, ◌▸◌, Fills}
+use Rattle.fill.proofs.Filling.{Laid, laid, final, group_on, put_halt}
+use Rattle.fill.proofs.Signs.{signed_fillings}
 use Rattle.parts_reader.proofs.Packing.{field-done, field_halt}
-use Rattle.parts_reader.proofs.Storing.{part_fillings, part_halts, onward_bit}
+use Rattle.parts_reader.proofs.Storing.{sayings, put_fit, fit_last, known_bit_on}
 use Rattle.restoration.specs.declared.record.LoopRestorationContext.{LoopRestorationContext}
-use Rattle.restoration.specs.Restoration.{large_in, large_shift, small_in, small_shift, uv_shift, used, chroma_used, uses, kinds, three_planes, no_kinds, no_planes}
+use Rattle.restoration.specs.Restoration.{large_in, large_shift, small_in, small_shift, unit_shift, uv_shift, used, chroma_used, uses, kinds, three_planes, no_kinds, no_planes}
 use Rattle.restoration_reader.specs.Layout.{shifts_place, uses_place, planes_place}
 
 -- a bit that is one less than the shift
-module _ {xs : List ℕ} {p : Cursor} {u : Step} {w v : ℕ} (i : Fills whole (f 1 0 0).dec xs p u w v) where
-  module _ {q : Cursor} (e : u ≡ Next q) where
-    pub shift_sum : Fits w32 (v + 1)
-    shift_sum = record { fits = omega (arith, f_small 1 0 0 (was_it i e)) }
+module _ {p q : BitReader} where
+  pub shift_sum : {v : ℕ} → Said (f 1 0 0).dec p q (Ok v) → Fits w32 (v + 1)
+  shift_sum s = record { fits = omega (arith, f_fits 1 0 0 s) }
 
-    pub shift_fits : SFits w32 (pos (v + 1))
-    shift_fits = record { sfits = omega (arith, f_small 1 0 0 (was_it i e)) }
-
-    pub large_coded : {m : ℤ} → Fills (made natural) large_shift.dec xs p (Next q) m (to_z w32 (of_z w32 (pos (v + 1))))
-    unfolding large_shift checked made
-    large_coded = field-done 1 large_in i e (to_z-of_z shift_fits)
-
-  pub large_halt : {y : Refusal} → u ≡ Refused y → {m n : ℤ} → Fills (made natural) large_shift.dec xs p u m n
+  pub large_coded : {v : ℕ} → Said (f 1 0 0).dec p q (Ok v) → Said large_shift.dec p q (Ok (v + 1))
   unfolding large_shift checked
-  large_halt e = field_halt 1 large_in i e
+  large_coded s = field-done 1 large_in s
 
-pub ruleset large_shifts = (shift_sum, shift_fits, large_coded, large_halt)
+  pub large_halt : {y : Refusal} {r : Result ℕ Refusal} → Said (f 1 0 0).dec p q (Err y) → IsErrAnd r (λ z. z ≡ y) → Said large_shift.dec p q r
+  unfolding large_shift checked
+  large_halt s i = field_halt 1 large_in s i
 
 -- the same bit behind a flag
-same_bit : (g : Got Bits) → and_then (and_then g (λ bs rest. got (from_bits bs) rest)) (λ v rest. got (pos (small_in (true, v))) rest) ≡ and_then (and_then g (λ bs rest. got (large_in (from_bits bs)) rest)) (λ v rest. got (pos v) rest)
+same_bit : (g : Got Bits) → and_then (and_then g (λ bs rest. got (from_bits bs) rest)) (λ v rest. got (small_in (true, v)) rest) ≡ and_then g (λ bs rest. got (large_in (from_bits bs)) rest)
 same_bit (got bs rest) = refl
 same_bit (stop y) = refl
 
-module _ {xs : List ℕ} {p : Cursor} {u : Step} {b w : Bool} (i : Fills whole flag.dec xs p u w b) where
-  pub small_coded : {q : Cursor} → u ≡ Next q → b ≡ true → {s : Step} {v m n : ℤ} → Fills (made natural) large_shift.dec xs q s m n → Fills (made natural) small_shift.dec xs p s v n
-  unfolding small_shift large_shift checked made
-  small_coded {q} e h (fills r) = begin _ (laid (reading.one_of _ _ _ (read_on flag _ _ (was_it i e) (reading.yes b _ _ h (rw h (reading (record { finds = same_bit (take_bits 1 (from xs q.at)) ∙ r.finds; moves = r.moves })))))))
+module _ {p q : BitReader} where
+  pub small_halt : {y : Refusal} {r : Result ℕ Refusal} → Said flag.dec p q (Err y) → IsErrAnd r (λ z. z ≡ y) → Said small_shift.dec p q r
+  unfolding small_shift
+  small_halt s i = start _ (one_of _ _ _ (halt flag _ s i))
 
-  pub small_none : {q : Cursor} → u ≡ Next q → b ≡ false → {v : ℤ} → Fills (made natural) small_shift.dec xs p (Next q) v (pos 0)
-  unfolding small_shift made
-  small_none e h = begin _ (laid (reading.one_of _ _ _ (read_on flag _ _ (was_it i e) (reading.no b _ _ h (reading.nothing 0 (rw h refl))))))
+  module _ {b : Bool} (i : Said flag.dec p q (Ok b)) where
+    pub small_coded : b ≡ true → {n : BitReader} {g : Result ℕ Refusal} → Said large_shift.dec q n g → Said small_shift.dec p n g
+    unfolding small_shift large_shift checked
+    small_coded h (said e r) = start _ (one_of _ _ _ (on flag _ i (yes b _ _ h (rw h (completes (said e (record { finds = same_bit (take_bits 1 (from q.bytes.now q.at)) ∙ r.finds; moves = r.moves })))))))
 
-  pub small_halt : {y : Refusal} → u ≡ Refused y → {v n : ℤ} → Fills (made natural) small_shift.dec xs p u v n
-  unfolding small_shift made
-  small_halt e = begin _ (laid (reading.one_of _ _ _ (rw e (read_halt flag _ _ (stopped i e)))))
+    pub small_none : b ≡ false → Said small_shift.dec p q (Ok 0)
+    unfolding small_shift
+    small_none h = start _ (one_of _ _ _ (on flag _ i (no b _ _ h (nothing 0 (rw h)))))
 
-pub ruleset small_shifts = (small_coded, small_none, small_halt)
+pub ruleset lr_readings = (readings, sayings, shift_sum, large_coded, large_halt, small_halt, small_coded, small_none)
 
--- tests that functions make
-pub final_uv : (a b : Bool) (i : ℕ) → a ≡ b → {xs : List ℕ} {p : Cursor} {s : Step} {w v : ℤ} {m : List ℤ} → Fills (made natural) (uv_shift a).dec xs p s w v → Laid (at (pos 0) i natural) (uv_shift b) xs p s m (set m i v)
-final_uv a b i e f = final_at (pos 0) i natural (uv_shift b) (rw e at f)
+-- a shift fits
+large-most : (bs : Bits) {v : ℕ} {rest : Bits} → large_shift.dec bs ≡ got v rest → v ≤ 2
+unfolding large_shift checked take_bits
+large-most [] h = absurd (stop-got h)
+large-most (a ∷ bs) {v} h = let e : from_bits (a ∷ []) + 1 ≡ v = got-value h in omega (arith, from_lt (a ∷ []))
 
-pub final_uses : (context : LoopRestorationContext) (y : ℕ) (restored chroma b : Bool) {xs : List ℕ} {p : Cursor} {s : Step} {m n z : List ℤ}
-    → Fills uses_place (uses context restored chroma).dec xs p s m n → restored ≡ used y chroma → chroma ≡ b → z ≡ n → Laid uses_place (uses context (used y b) b) xs p s m z
+small-most : (bs : Bits) {v : ℕ} {rest : Bits} → small_shift.dec bs ≡ got v rest → v ≤ 2
+unfolding small_shift merged ◌▷◌ flag choose absent take_bits
+small-most [] h = absurd (stop-got h)
+small-most (false ∷ bs) {v} h = let e : 0 ≡ v = got-value h in omega arith
+small-most (true ∷ []) h = absurd (stop-got h)
+small-most (true ∷ a ∷ bs) {v} h = let e : from_bits (a ∷ []) + 1 ≡ v = got-value h in omega (arith, from_lt (a ∷ []))
+
+unit-most : (large : Bool) (bs : Bits) {v : ℕ} {rest : Bits} → (unit_shift large).dec bs ≡ got v rest → v ≤ 2
+unfolding unit_shift choose
+unit-most true bs h = large-most bs h
+unit-most false bs h = small-most bs h
+
+uv-most : (coded : Bool) (bs : Bits) {v : ℕ} {rest : Bits} → (uv_shift coded).dec bs ≡ got v rest → v ≤ 2
+unfolding uv_shift choose f inferred take_bits
+uv-most true [] h = absurd (stop-got h)
+uv-most true (a ∷ bs) {v} h = let e : from_bits (a ∷ []) ≡ v = got-value h in omega (arith, from_lt (a ∷ []))
+uv-most false bs {v} h = let e : 0 ≡ v = got-value h in omega arith
+
+module _ (b : Bool) {p q : BitReader} {v : ℕ} where
+  pub unit_fits : Said (unit_shift b).dec p q (Ok v) → SFits w32 (pos v)
+  unfolding found
+  unit_fits s = record { sfits = omega (arith, unit-most b _ (reads s).finds) }
+
+  pub uv_fits : Said (uv_shift b).dec p q (Ok v) → SFits w32 (pos v)
+  unfolding found
+  uv_fits s = record { sfits = omega (arith, uv-most b _ (reads s).finds) }
+
+-- the planes in use, by tests that functions made
+pub final_uses : (context : LoopRestorationContext) (y : ℕ) (restored chroma b : Bool) {p q : BitReader} {g : Result Nil Refusal} {m n z : List ℤ}
+    → Fills uses_place (uses context restored chroma).dec p q g m n → restored ≡ used y chroma → chroma ≡ b → z ≡ n → Laid uses_place (uses context (used y b) b) p q g m z
 final_uses context y restored chroma b f h e k = final (uses context (used y b) b) (rw (← e, ← h) f) k
-
--- a flag that is inferred
-pub known_bit_on : {B : Type 0} (e c : ℕ) (x : Bool) (i : ℕ) (j : Layout (List ℤ) B) (k : Bool → Codec B) {xs : List ℕ} {p : Cursor} {s : Step} {m z : List ℤ}
-    → Laid j (k x) xs p s (set m i (to_z w32 (bool_byte x))) z → Laid (at (pos 0) i signed_bit ▸ j) (inferred_flag e c x ▷ k) xs p s m z
-known_bit_on e c x i j k g = onward_bit i j _ k (begin _ (known_flag_made e c x same {m = x} x refl)) refl g
 
 -- the three kinds, as one number of six bits
 kinds-of : (y u v : ℕ) → y < 4 → u < 4 → v < 4 → (k : ℕ) → k ≡ y * 16 + (u * 4 + v) → ◌≡◌ {A = ℕ × (ℕ × ℕ)} (y, (u, v)) (k / 16, (k / 4 % 4, k % 4))
@@ -98,37 +118,36 @@ six (a ∷ b ∷ c ∷ d ∷ []) = refl
 six (a ∷ b ∷ c ∷ d ∷ e ∷ []) = refl
 six (a ∷ b ∷ c ∷ d ∷ e ∷ g ∷ rest) = ap (λ (p : ℕ × (ℕ × ℕ)). got p rest) (kinds-of (from_bits (a ∷ b ∷ [])) (from_bits (c ∷ d ∷ [])) (from_bits (e ∷ g ∷ [])) (from_lt (a ∷ b ∷ [])) (from_lt (c ∷ d ∷ [])) (from_lt (e ∷ g ∷ [])) _ (omega arith))
 
-module _ {xs : List ℕ} {p : Cursor} {u : Step} {w k : ℕ} (i : Fills whole (f 6 0 0).dec xs p u w k) where
-  module _ {q : Cursor} (e : u ≡ Next q) where
-    pub luma_fits : SFits w32 (pos (k / 16))
-    luma_fits = record { sfits = omega (arith, f_small 6 0 0 (was_it i e)) }
+module _ {p q : BitReader} where
+  kinds-said : {k : ℕ} → Said (f 6 0 0).dec p q (Ok k) → Said kinds.dec p q (Ok (k / 16, (k / 4 % 4, k % 4)))
+  unfolding found Moved
+  kinds-said (said e r) = said e (record { finds = six (from p.bytes.now p.at) ∙ rw r.finds; moves = r.moves })
 
-    pub onward_kinds : (context : LoopRestorationContext) {s : Step} {m z : List ℤ}
-        → Laid uses_place (uses context (used (k / 16) (chroma_used (k / 4 % 4) (k % 4))) (chroma_used (k / 4 % 4) (k % 4))) xs q s
+  module _ (context : LoopRestorationContext) where
+    pub onward_kinds : {k : ℕ} {s : BitReader} {g : Result Nil Refusal} {m z : List ℤ} → Said (f 6 0 0).dec p q (Ok k)
+        → Laid uses_place (uses context (used (k / 16) (chroma_used (k / 4 % 4) (k % 4))) (chroma_used (k / 4 % 4) (k % 4))) q s g
         (set (set (set m 7 (to_z w32 (of_z w32 (pos (k / 16))))) 8 (to_z w32 (of_z w32 (pos (k / 4 % 4))))) 9 (to_z w32 (of_z w32 (pos (k % 4))))) z
-        → Laid planes_place (three_planes context) xs p s m z
-    unfolding planes_place three_planes ◌▸◌ at found Moved
-    onward_kinds context (laid r) =
-        let o = was_it i e in
+        → Laid planes_place (three_planes context) p s g m z
+    unfolding planes_place three_planes ◌▸◌ at
+    onward_kinds {k} s (laid r) =
+        let o : SFits w32 (pos (k / 16)) = record { sfits = omega (arith, f_fits 6 0 0 s) } in
         let a : SFits w32 (pos (k / 4 % 4)) = record { sfits = omega arith } in
         let b : SFits w32 (pos (k % 4)) = record { sfits = omega arith } in
-        laid (read_on kinds _ _ (record { finds = six (from xs p.at) ∙ rw o.finds refl; moves = o.moves }) (rw (to_z-of_z luma_fits, to_z-of_z a, to_z-of_z b) at r))
+        laid (on kinds _ (kinds-said s) (rw (to_z-of_z o, to_z-of_z a, to_z-of_z b) at r))
 
-  pub halted_kinds : (context : LoopRestorationContext) {y : Refusal} {m z : List ℤ} → u ≡ Refused y → Laid planes_place (three_planes context) xs p u m z
-  unfolding planes_place three_planes found Moved
-  halted_kinds context e = let o = stopped i e in laid (rw e (read_halt kinds _ _ (record { finds = six (from xs p.at) ∙ rw o.finds refl; moves = o.moves })))
+    pub halted_kinds : {y : Refusal} {g : Result Nil Refusal} {m z : List ℤ} → Said (f 6 0 0).dec p q (Err y) → IsErrAnd g (λ z. z ≡ y) → Laid planes_place (three_planes context) p q g m z
+    unfolding three_planes
+    halted_kinds s i = put_halt kinds _ (stops kinds.dec s (λ bs e. six bs ∙ rw e)) i
 
 -- two values at once, and what comes behind them
-pub nothing_pair_on : {A B C N : Type 0} (d o : N) (i j : ℕ) (g : Way N A) (h : Way N B) (b : A × B) (l : Layout (List N) C) (k : A × B → Codec C) {xs : List ℕ} {p : Cursor} {s : Step} {m z : List N}
-    → Laid l (k b) xs p s (set (set m i (g.to b.0)) j (h.to b.1)) z → Laid ((at d i g ▸ at o j h) ▸ l) (absent b ▷ k) xs p s m z
-unfolding at ◌▸◌ absent found Moved
-nothing_pair_on d o i j g h b l k (laid r) = laid (read_on (absent b) k _ (record { finds = refl; moves = refl }) r)
+pub nothing_pair_on : {A B C N : Type 0} (d o : N) (i j : ℕ) (g : Way N A) (h : Way N B) (b : A × B) (l : Layout (List N) C) (k : A × B → Codec C) {p s : BitReader} {r : Result Nil Refusal} {m z : List N}
+    → Laid l (k b) p s r (set (set m i (g.to b.0)) j (h.to b.1)) z → Laid ((at d i g ▸ at o j h) ▸ l) (absent b ▷ k) p s r m z
+unfolding at ◌▸◌
+nothing_pair_on d o i j g h b l k (laid r) = laid (on (absent b) k (fixed_reads _ (by_absent b)) r)
 
 -- nothing is restored
-pub none_restored : {xs : List ℕ} {p : Cursor} {m : List ℤ} → Laid planes_place no_planes xs p (Next p) m (set (set (set (set (set (set (set m 7 (pos 0)) 8 (pos 0)) 9 (pos 0)) 10 (pos 0)) 11 (pos 0)) 12 (pos 0)) 13 (pos 0))
+pub none_restored : {p : BitReader} {m : List ℤ} → Laid planes_place no_planes p p (Ok nil) m (set (set (set (set (set (set (set m 7 (pos 0)) 8 (pos 0)) 9 (pos 0)) 10 (pos 0)) 11 (pos 0)) 12 (pos 0)) 13 (pos 0))
 unfolding planes_place uses_place shifts_place no_planes no_kinds ◌▸◌ at ◌▷◌ absent inferred inferred_flag found Moved
-none_restored = laid (reading (record { finds = refl; moves = refl }))
+none_restored = laid (completes (said refl (record { finds = refl; moves = refl })))
 
-pub ruleset lr_fillings = (part_fillings, group_on, final_uv, final_uses, known_bit_on, nothing_pair_on, onward_kinds, none_restored)
-
-pub ruleset lr_halts = (lr_fillings, part_halts, halted_kinds)
+pub ruleset lr_fillings = (signed_fillings, unit_fits, uv_fits, put_fit, fit_last, group_on, final_uses, known_bit_on, nothing_pair_on, onward_kinds, halted_kinds, none_restored)

@@ -1,149 +1,133 @@
 // 5.9.20 lr_params, read into the record's numbers, whose context is kept.
+#![tactic(auto, using(crate::proofs::Restoring::lr_readings))]
+
 ghost use Rattle.std.specs.Prelude.{replicate, pos};
-ghost use Rattle.fill.specs.Fills.{Fills, made, natural};
+ghost use Rattle.reader.specs.Reading.{Said};
+ghost use Rattle.fill.specs.Fills.{Fills};
 ghost use Rattle.parts_reader.specs.Reading.{Tells};
 ghost use Rattle.restoration.specs.Restoration.{large_shift, small_shift, unit_shift, uv_shift, shifts, uses, three_planes, one_plane, lr_params};
 ghost use Rattle.restoration_reader.specs.Layout.{shifts_place, uses_place, planes_place, lr_place, lr_by};
 
-use bits::answer::*;
-use fill::*;
-use parts::inferred::*;
-use parts_reader::place::*;
-use restoration::record::LoopRestorationContext;
+use bits::answer::Refusal;
+use parts_reader::place::begin;
+use reader::BitReader;
+use restoration::record::{LoopRestorationContext, chroma_used, used};
 use restoration_numbers::place;
 use restoration_numbers::record::lr_context;
 
-fn large_shift(s: &[u8], c: Cursor, v: &mut i32) -> Step
-    ensures { Fills (made natural) large_shift.dec s.now c result v.old v.new }
+fn large_shift(r: &mut BitReader) -> Result<u32, Refusal>
+    ensures { Said large_shift.dec r.old r.new result }
 {
-    let mut less = 0;
-    let t = f(s, c, 1, &mut less);
-    let Step::Next(c) = t else {
-        return t;
-    };
-    *v = (less + 1) as i32;
-    Step::Next(c)
+    Ok(r.f(1)? + 1)
 }
 
 // Behind a set flag the bit is that of a large shift.
-fn small_shift(s: &[u8], c: Cursor, v: &mut i32) -> Step
-    ensures { Fills (made natural) small_shift.dec s.now c result v.old v.new }
+fn small_shift(r: &mut BitReader) -> Result<u32, Refusal>
+    ensures { Said small_shift.dec r.old r.new result }
 {
-    let mut more = false;
-    let t = flag(s, c, &mut more);
-    let Step::Next(c) = t else {
-        return t;
-    };
-    if more {
-        return large_shift(s, c, v);
+    if r.flag()? {
+        return large_shift(r);
     }
-    *v = 0;
-    Step::Next(c)
+    Ok(0)
 }
 
-fn unit_shift(s: &[u8], c: Cursor, large: bool, v: &mut i32) -> Step
-    ensures { Fills (made natural) (unit_shift large).dec s.now c result v.old v.new }
+#[tactic(auto, using(crate::proofs::Restoring::lr_readings), unfolding(restoration::specs::Restoration::unit_shift))]
+fn unit_shift(r: &mut BitReader, large: bool) -> Result<u32, Refusal>
+    ensures { Said (unit_shift large).dec r.old r.new result }
 {
     if large {
-        return large_shift(s, c, v);
+        return large_shift(r);
     }
-    small_shift(s, c, v)
+    small_shift(r)
 }
 
-fn uv_shift(s: &[u8], c: Cursor, coded: bool, v: &mut i32) -> Step
-    ensures { Fills (made natural) (uv_shift coded).dec s.now c result v.old v.new }
+#[tactic(auto, using(crate::proofs::Restoring::lr_readings), unfolding(restoration::specs::Restoration::uv_shift))]
+fn uv_shift(r: &mut BitReader, coded: bool) -> Result<u32, Refusal>
+    ensures { Said (uv_shift coded).dec r.old r.new result }
 {
     if coded {
-        return natural(s, c, 1, v);
+        return r.f(1);
     }
-    *v = 0;
-    Step::Next(c)
+    Ok(0)
 }
 
+#[tactic(auto, using(crate::proofs::Restoring::lr_fillings), unfolding(restoration::specs::Restoration::shifts, crate::specs::Layout::shifts_place))]
 fn shifts(
-    s: &[u8],
-    c: Cursor,
+    r: &mut BitReader,
     context: LoopRestorationContext,
     chroma: bool,
     n: &mut [i32; 14],
-) -> Step
-    ensures { Fills shifts_place (shifts context chroma).dec s.now c result n.old n.new }
+) -> Result<(), Refusal>
+    ensures { Fills shifts_place (shifts context chroma).dec r.old r.new result n.old n.new }
 {
-    let t = unit_shift(
-        s,
-        c,
-        context.use_128x128_superblock,
-        &mut n[place::LR_UNIT_SHIFT],
-    );
-    let Step::Next(c) = t else {
-        return t;
-    };
-    let coded = all(context.subsampling_x, context.subsampling_y, chroma);
-    uv_shift(s, c, coded, &mut n[place::LR_UV_SHIFT])
+    n[place::LR_UNIT_SHIFT] = unit_shift(r, context.use_128x128_superblock)? as i32;
+    n[place::LR_UV_SHIFT] = uv_shift(r, context.codes_uv_shift(chroma))? as i32;
+    Ok(())
 }
 
+#[tactic(auto, using(crate::proofs::Restoring::lr_fillings), unfolding(restoration::specs::Restoration::uses, crate::specs::Layout::uses_place))]
 fn uses(
-    s: &[u8],
-    c: Cursor,
+    r: &mut BitReader,
     context: LoopRestorationContext,
     restored: bool,
     chroma: bool,
     n: &mut [i32; 14],
-) -> Step
-    ensures { Fills uses_place (uses context restored chroma).dec s.now c result n.old n.new }
+) -> Result<(), Refusal>
+    ensures { Fills uses_place (uses context restored chroma).dec r.old r.new result n.old n.new }
 {
     n[place::USES_LR] = restored as i32;
     n[place::USES_CHROMA_LR] = chroma as i32;
     if restored {
-        return shifts(s, c, context, chroma, n);
+        return shifts(r, context, chroma, n);
     }
     n[place::LR_UNIT_SHIFT] = 0;
     n[place::LR_UV_SHIFT] = 0;
-    Step::Next(c)
+    Ok(())
 }
 
 // The three kinds are read as one field.
-fn three_planes(s: &[u8], c: Cursor, context: LoopRestorationContext, n: &mut [i32; 14]) -> Step
-    ensures { Fills planes_place (three_planes context).dec s.now c result n.old n.new }
+#[tactic(auto, using(crate::proofs::Restoring::lr_fillings))]
+fn three_planes(
+    r: &mut BitReader,
+    context: LoopRestorationContext,
+    n: &mut [i32; 14],
+) -> Result<(), Refusal>
+    ensures { Fills planes_place (three_planes context).dec r.old r.new result n.old n.new }
 {
-    let mut kinds = 0;
-    let t = f(s, c, 6, &mut kinds);
-    let Step::Next(c) = t else {
-        return t;
-    };
-    let y = kinds / 16;
-    let u = kinds / 4 % 4;
-    let v = kinds % 4;
+    let kinds = r.f(6)?;
+    let (y, u, v) = (kinds / 16, kinds / 4 % 4, kinds % 4);
     n[place::FRAME_RESTORATION_TYPE] = y as i32;
     n[place::FRAME_RESTORATION_TYPE + 1] = u as i32;
     n[place::FRAME_RESTORATION_TYPE + 2] = v as i32;
-    let chroma = either(u != 0, v != 0);
-    uses(s, c, context, either(y != 0, chroma), chroma, n)
+    let chroma = chroma_used(u, v);
+    uses(r, context, used(y, chroma), chroma, n)
 }
 
-fn one_plane(s: &[u8], c: Cursor, context: LoopRestorationContext, n: &mut [i32; 14]) -> Step
-    ensures { Fills planes_place (one_plane context).dec s.now c result n.old n.new }
+#[tactic(auto, using(crate::proofs::Restoring::lr_fillings), unfolding(restoration::specs::Restoration::one_plane, restoration::specs::Restoration::one_kind, crate::specs::Layout::planes_place))]
+fn one_plane(
+    r: &mut BitReader,
+    context: LoopRestorationContext,
+    n: &mut [i32; 14],
+) -> Result<(), Refusal>
+    ensures { Fills planes_place (one_plane context).dec r.old r.new result n.old n.new }
 {
-    let mut y = 0;
-    let t = f(s, c, 2, &mut y);
-    let Step::Next(c) = t else {
-        return t;
-    };
+    let y = r.f(2)?;
     n[place::FRAME_RESTORATION_TYPE] = y as i32;
     n[place::FRAME_RESTORATION_TYPE + 1] = 0;
     n[place::FRAME_RESTORATION_TYPE + 2] = 0;
-    uses(s, c, context, either(y != 0, false), false, n)
+    uses(r, context, used(y, false), false, n)
 }
 
 // Where nothing is restored all seven are 0.
-fn lr_params(s: &[u8], c: Cursor, context: LoopRestorationContext, n: &mut [i32; 14]) -> Step
-    ensures { Fills lr_place (lr_params context).dec s.now c result n.old n.new }
+#[tactic(auto, using(crate::proofs::Restoring::lr_fillings), unfolding(restoration::specs::Restoration::lr_params, restoration::specs::Restoration::lr_table, crate::specs::Layout::lr_place))]
+fn lr_params(
+    r: &mut BitReader,
+    context: LoopRestorationContext,
+    n: &mut [i32; 14],
+) -> Result<(), Refusal>
+    ensures { Fills lr_place (lr_params context).dec r.old r.new result n.old n.new }
 {
-    if any(
-        context.all_lossless,
-        context.allow_intrabc,
-        !context.enable_restoration,
-    ) {
+    if context.is_off() {
         n[place::FRAME_RESTORATION_TYPE] = 0;
         n[place::FRAME_RESTORATION_TYPE + 1] = 0;
         n[place::FRAME_RESTORATION_TYPE + 2] = 0;
@@ -151,12 +135,12 @@ fn lr_params(s: &[u8], c: Cursor, context: LoopRestorationContext, n: &mut [i32;
         n[place::USES_CHROMA_LR] = 0;
         n[place::LR_UNIT_SHIFT] = 0;
         n[place::LR_UV_SHIFT] = 0;
-        return Step::Next(c);
+        return Ok(());
     }
     if context.planes == 1 {
-        return one_plane(s, c, context, n);
+        return one_plane(r, context, n);
     }
-    three_planes(s, c, context, n)
+    three_planes(r, context, n)
 }
 
 // The part from the bit `place` of `input` on, behind the context's numbers; where it is refused, all numbers are as they were.
@@ -165,24 +149,18 @@ pub fn fill_lr_params(
     place: u32,
     context: LoopRestorationContext,
     n: &mut [i32; 14],
-) -> Answer
+) -> Result<u32, Refusal>
     ensures { Tells lr_place (lr_params context) place input.now n.old result n.new }
 {
-    let b = begin(input, place);
-    let Step::Next(c) = b else {
-        return answer(b);
-    };
+    let mut r = begin(input, place)?;
     let mut m = *n;
-    let t = lr_params(input, c, context, &mut m);
-    let Step::Next(_) = t else {
-        return answer(t);
-    };
+    lr_params(&mut r, context, &mut m)?;
     *n = m;
-    answer(t)
+    Ok(r.at as u32)
 }
 
 // The same, by the context that stands in the numbers.
-pub fn read_lr_numbers(input: &[u8], place: u32, n: &mut [i32; 14]) -> Answer
+pub fn read_lr_numbers(input: &[u8], place: u32, n: &mut [i32; 14]) -> Result<u32, Refusal>
     ensures { Tells lr_place (lr_by n.old) place input.now n.old result n.new }
 {
     let context = lr_context(n);
@@ -195,7 +173,7 @@ pub fn read_lr_params(
     place: u32,
     context: LoopRestorationContext,
     n: &mut [i32; 14],
-) -> Answer
+) -> Result<u32, Refusal>
     ensures { Tells lr_place (lr_params context) place input.now (replicate 14 (pos 0)) result n.new }
 {
     *n = [0i32; 14];

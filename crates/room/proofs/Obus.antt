@@ -11,14 +11,14 @@ use Rattle.bits.specs.Bits.{Bits, to_bits}
 use Rattle.bits.specs.Walk.{Walk, End, done, refused, Out, wrote, join, run}
 use Rattle.bits.specs.Codec.{Codec, ◌▷◌, choose, via, allowed, f, flag, zeros, absent, merged}
 use Rattle.bits.specs.Codes.{leb128, leb_step, too_long}
-use Rattle.bits.specs.Written.{whole_bytes}
-use Rattle.bits.specs.declared.answer.Answer.TheVariants.{Done, Refused}
+use Rattle.bits.specs.Written.{Answer, whole_bytes}
+use Rattle.std.specs.Prelude.{Ok, Err}
 use Rattle.bits.specs.declared.answer.Refusal.{Refusal}
 use Rattle.bits.specs.declared.answer.Refusal.TheVariants.{Short, Long}
 use Rattle.bits.proofs.Numbers.{length-to_bits}
 use Rattle.bits.proofs.Laws.{join_inv, joined, wrote-bits}
 use Rattle.bits.proofs.CodeLaws.{leb_mono}
-use Rattle.bits.proofs.Walking.{bounded}
+use Rattle.bits.proofs.Lengths.{bounded}
 use Rattle.bits.proofs.Counting.{Few, Takes, unshort, unshort-ends, never_short}
 use Rattle.obu.specs.declared.header.ObuHeader.{ObuHeader}
 use Rattle.obu.specs.Header.{expected_type, obu_extension_header, header_end, header_table, obu_header}
@@ -32,21 +32,21 @@ use Rattle.obu.proofs.Writing.{wrote_all, done_is_ended}
 use Rattle.room.specs.Enough.{EnoughBytes}
 
 -- what an answer says of the walk
-done-bytes : (t u : Bool) (b : ℕ) {m : ℕ} → Done m ≡ cond t (Refused Long) (cond u (Refused (Short b)) (Done b)) → m ≡ b
+done-bytes : (t u : Bool) (b : ℕ) {m : ℕ} → Ok m ≡ cond t (Err Long) (cond u (Err (Short b)) (Ok b)) → m ≡ b
 done-bytes true u b h = let z : ◌≡◌ {A = ℕ} 0 1 = cc in absurd (omega arith)
 done-bytes false true b h = let z : ◌≡◌ {A = ℕ} 0 1 = cc in absurd (omega arith)
 done-bytes false false b h = cc
 
-short_not_done : (t : Bool) (b : ℕ) {m : ℕ} → Refused (Short m) ≡ cond t (Refused Long) (Done b) → ⊥
+short_not_done : (t : Bool) (b : ℕ) {m : ℕ} → Err (Short m) ≡ cond t (Err Long) (Ok b) → ⊥
 short_not_done true b h = let z : ◌≡◌ {A = ℕ} 0 1 = cc in omega arith
 short_not_done false b h = let z : ◌≡◌ {A = ℕ} 0 1 = cc in omega arith
 
-short_is_own : (t : Bool) {r : Refusal} {m : ℕ} → Refused (Short m) ≡ cond t (Refused Long) (Refused r) → r ≡ Short m
+short_is_own : (t : Bool) {r : Refusal} {m : ℕ} → ◌≡◌ {A = Answer} (Err (Short m)) (cond t (Err Long) (Err r)) → r ≡ Short m
 short_is_own true h = let z : ◌≡◌ {A = ℕ} 0 1 = cc in absurd (omega arith)
 short_is_own false h = cc
 
 module _ {R : Type 0} (w : R → Walk) (n : ℕ) (F : (r : R) → Few (n * 8) (w r)) (U : (r : R) → unshort (w r) ≡ true) where
-  most : (r : R) (xs ys : List ℕ) (m : ℕ) → Writes (w r) xs (Done m) ys → m ≤ n
+  most : (r : R) (xs ys : List ℕ) (m : ℕ) → Writes (w r) xs (Ok m) ys → m ≤ n
   unfolding written
   most r xs ys m (writes p q) =
       let e = done_is_ended {w = w r} {xs = xs} {ys = ys} (writes p q) refl in
@@ -54,11 +54,11 @@ module _ {R : Type 0} (w : R → Walk) (n : ℕ) (F : (r : R) → Few (n * 8) (w
       let h : m ≡ b = done-bytes (ltb 65536 (length xs)) (ltb (length xs) b) b (p ∙ rw e) in
       omega (arith, (F r).most _ (wrote_all (run (w r)) e))
 
-  short : (r : R) (xs ys : List ℕ) (m : ℕ) → n ≤ length xs → Writes (w r) xs (Refused (Short m)) ys → ⊥
+  short : (r : R) (xs ys : List ℕ) (m : ℕ) → n ≤ length xs → Writes (w r) xs (Err (Short m)) ys → ⊥
   unfolding written
   short r xs ys m l (writes p q) = go (run (w r)).end refl p
     where
-      go : (k : End) → (run (w r)).end ≡ k → Refused (Short m) ≡ answer_to k (length (run (w r)).bits) (length xs) → ⊥
+      go : (k : End) → (run (w r)).end ≡ k → Err (Short m) ≡ answer_to k (length (run (w r)).bits) (length xs) → ⊥
       go done e h =
           let b = whole_bytes (length (run (w r)).bits) in
           let k : b ≤ length xs = omega (arith, (F r).most _ (wrote_all (run (w r)) e)) in
@@ -69,7 +69,7 @@ module _ {R : Type 0} (w : R → Walk) (n : ℕ) (F : (r : R) → Few (n * 8) (w
   unfolding written
   enough_bytes longest T = record { most = most; never_short = short; reached = reached }
     where
-      reached : (xs : List ℕ) → length xs ≤ 65536 → (written (w longest) xs).answer ≡ cond (ltb (length xs) n) (Refused (Short n)) (Done n)
+      reached : (xs : List ℕ) → length xs ≤ 65536 → (written (w longest) xs).answer ≡ cond (ltb (length xs) n) (Err (Short n)) (Ok n)
       reached xs l = let b : whole_bytes (n * 8) ≡ n = omega arith in rw (le-ltb 65536 (length xs) l, T.ends, T.bits, b)
 
 -- Around a payload of at most n bits stand at most a header with its extension and the size, which is z for n bits.

@@ -1,6 +1,6 @@
 -- The most bits of the segmentation parameters. The bound takes a feature without a sign for one with: it has 24 too many.
 use mathlib.Core.Path.{refl}
-use mathlib.Core.Bool.{Bool, false, cond}
+use mathlib.Core.Bool.{Bool, false}
 use Prim.Native.Nat.{ℕ, ◌+◌, ◌%◌}
 use native.Mathlib.Omega.{arith}
 use lib.IntN.{ℤ, pos}
@@ -9,7 +9,8 @@ use Rattle.bits.specs.Walk.{bound}
 use Rattle.bits.specs.Codec.{◌▷◌, choose, via, array, f, flag, absent, inferred_flag}
 use Rattle.bits.specs.Codes.{su}
 use Rattle.parts.specs.Codes.{inferred_signed, natural, trimmed, zip}
-use Rattle.segmentation.specs.Segmentation.{feature_bits, Features, features_out, signed_value, unsigned_value, feature_value, feature, features, no_flags, no_data, no_features, features_if, temporal_update, coded_updates, inferred_updates, with_reference, without_reference, enabled_params, segmentation_table, segmentation_params}
+use Rattle.segmentation.specs.Packed.{value_bits}
+use Rattle.segmentation.specs.Segmentation.{Features, features_out, signed_value, unsigned_value, feature_value, feature, features, no_flags, no_data, no_features, features_if, temporal_update, coded_updates, inferred_updates, with_reference, without_reference, enabled_params, segmentation_table, segmentation_params}
 use Rattle.segmentation.specs.declared.record.SegmentationParams.{SegmentationParams}
 use Rattle.segmentation.specs.declared.record.SegmentationContext.{SegmentationContext}
 use Rattle.bits.proofs.Counting.{Few, few_by, few_then, few_known, few-either, array-few, unshort, Within}
@@ -19,9 +20,6 @@ unfolding bound unshort signed_value unsigned_value feature_value feature featur
 within context p = record { most = lit≤ tt; own = refl }
 
 -- Feature by feature
-abbrev value_bits : ℕ → ℕ
-value_bits j = cond (ltb j 5) (feature_bits j + 1) (feature_bits j)
-
 feature-few : (i : ℕ) (v : Bool × ℤ) → Few (1 + value_bits (i % 8)) ((feature i).enc v)
 unfolding feature feature_value signed_value unsigned_value natural trimmed su flag absent ◌▷◌ choose bound
 feature-few i v = few_then (few_by (lit≤ tt)) (few-either v.0 (few_known (ltb (i % 8) 5) (few_by (omega arith)) (few_by (omega arith))) (few_by (omega arith)))

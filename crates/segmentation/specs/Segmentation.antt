@@ -1,4 +1,4 @@
--- 5.9.14: the segmentation parameters. Each table is the contract of the writer's function of its name.
+-- 5.9.14: the segmentation parameters. Each table is the contract of the function of its name, the writer's or the reader's.
 use Rattle.std.specs.Prelude.{List, [], ◌∷◌, Bool, true, false, ℕ, ◌+◌, ◌%◌, eqb, ltb, get_or, replicate, ℤ, pos, neg_ℤ}
 use Rattle.bits.specs.Codec.{Codec, flag, absent, inferred_flag, choose, via, array, ◌▷◌}
 use Rattle.bits.specs.Codes.{su}

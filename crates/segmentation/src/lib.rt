@@ -2,6 +2,6 @@
 #![tactic(auto)]
 
 pub mod feature; // feature.rt: the bits and the limit of each feature
-mod packed; // packed.rt: one feature, as one field where it fits
+mod packed; // packed.rt: one feature, as one field
 pub mod record; // record.rt: the record, and what it goes by
 pub mod write; // write.rt: 5.9.14, written

@@ -1,6 +1,6 @@
 // 5.9.14 segmentation_params, written.
 ghost use Rattle.std.specs.Prelude.{pos};
-ghost use Rattle.bits.specs.Walk.{Walked};
+ghost use Rattle.writer.specs.Walked.{Walked};
 ghost use Rattle.parts.specs.Written.{Writes};
 ghost use Rattle.bits.specs.Elements.{feature_data};
 ghost use Rattle.parts.specs.Codes.{inferred_signed};
@@ -11,126 +11,79 @@ use crate::record::*;
 use bits::answer::*;
 use bits::element::*;
 use parts::place::*;
-use writer::*;
+use writer::BitWriter;
 
-fn features(out: &mut [u8], c: Cursor, p: SegmentationParams) -> Step
-    ensures { Walked (features.enc (features_out p)) c out.old result out.new }
+fn features(w: &mut BitWriter, p: SegmentationParams) -> Result<(), Refusal>
+    ensures { Walked (features.enc (features_out p)) w.old w.new result }
 {
-    let mut c = c;
-    let mut i: usize = 0;
-    while i < 64 {
-        let s = feature(out, c, p.feature_enabled[i], p.feature_data[i], i);
-        let Step::Next(next) = s else {
-            return s;
-        };
-        c = next;
-        i += 1;
+    for i in 0..64 {
+        feature(w, p.feature_enabled[i], p.feature_data[i], i)?;
     }
-    Step::Next(c)
+    Ok(())
 }
 
-fn no_flags(out: &mut [u8], c: Cursor, p: SegmentationParams) -> Step
-    ensures { Walked (no_flags.enc p.feature_enabled) c out.old result out.new }
+fn no_flags(w: &mut BitWriter, p: SegmentationParams) -> Result<(), Refusal>
+    ensures { Walked (no_flags.enc p.feature_enabled) w.old w.new result }
 {
-    let mut c = c;
-    let mut i: usize = 0;
-    while i < 64 {
-        let s = inferred_flag(out, c, p.feature_enabled[i], false, FEATURE_ENABLED, 0);
-        let Step::Next(next) = s else {
-            return s;
-        };
-        c = next;
-        i += 1;
+    for enabled in p.feature_enabled {
+        w.inferred_flag(enabled, false, FEATURE_ENABLED, 0)?;
     }
-    Step::Next(c)
+    Ok(())
 }
 
-fn no_value(out: &mut [u8], c: Cursor, v: i16) -> Step
-    ensures { Walked ((inferred_signed feature_data (pos 0)).enc v) c out.old result out.new }
+fn no_value(w: &mut BitWriter, v: i16) -> Result<(), Refusal>
+    ensures { Walked ((inferred_signed feature_data (pos 0)).enc v) w.old w.new result }
 {
-    demand(out, c, v == 0, FEATURE_DATA, 0)
+    w.demand(v == 0, FEATURE_DATA, 0)
 }
 
-fn no_data(out: &mut [u8], c: Cursor, p: SegmentationParams) -> Step
-    ensures { Walked (no_data.enc p.feature_data) c out.old result out.new }
+fn no_data(w: &mut BitWriter, p: SegmentationParams) -> Result<(), Refusal>
+    ensures { Walked (no_data.enc p.feature_data) w.old w.new result }
 {
-    let mut c = c;
-    let mut i: usize = 0;
-    while i < 64 {
-        let s = no_value(out, c, p.feature_data[i]);
-        let Step::Next(next) = s else {
-            return s;
-        };
-        c = next;
-        i += 1;
+    for value in p.feature_data {
+        no_value(w, value)?;
     }
-    Step::Next(c)
+    Ok(())
 }
 
-fn features_if(out: &mut [u8], c: Cursor, p: SegmentationParams) -> Step
-    ensures { Walked ((features_if p.segmentation_update_data).enc (features_out p)) c out.old result out.new }
+fn features_if(w: &mut BitWriter, p: SegmentationParams) -> Result<(), Refusal>
+    ensures { Walked ((features_if p.segmentation_update_data).enc (features_out p)) w.old w.new result }
 {
     if p.segmentation_update_data {
-        return features(out, c, p);
+        return features(w, p);
     }
-    let s = no_flags(out, c, p);
-    let Step::Next(c) = s else {
-        return s;
-    };
-    no_data(out, c, p)
+    no_flags(w, p)?;
+    no_data(w, p)
 }
 
-fn temporal_update(out: &mut [u8], c: Cursor, p: SegmentationParams) -> Step
-    ensures { Walked ((temporal_update p.segmentation_update_map).enc p.segmentation_temporal_update) c out.old result out.new }
+fn temporal_update(w: &mut BitWriter, p: SegmentationParams) -> Result<(), Refusal>
+    ensures { Walked ((temporal_update p.segmentation_update_map).enc p.segmentation_temporal_update) w.old w.new result }
 {
     if p.segmentation_update_map {
-        return flag(out, c, p.segmentation_temporal_update);
+        return w.flag(p.segmentation_temporal_update);
     }
-    Step::Next(c)
+    Ok(())
 }
 
-fn coded_updates(out: &mut [u8], c: Cursor, p: SegmentationParams) -> Step
-    ensures { Walked (coded_updates.enc (updates_out p)) c out.old result out.new }
+fn coded_updates(w: &mut BitWriter, p: SegmentationParams) -> Result<(), Refusal>
+    ensures { Walked (coded_updates.enc (updates_out p)) w.old w.new result }
 {
-    let s = flag(out, c, p.segmentation_update_map);
-    let Step::Next(c) = s else {
-        return s;
-    };
-    let s = temporal_update(out, c, p);
-    let Step::Next(c) = s else {
-        return s;
-    };
-    flag(out, c, p.segmentation_update_data)
+    w.flag(p.segmentation_update_map)?;
+    temporal_update(w, p)?;
+    w.flag(p.segmentation_update_data)
 }
 
-fn inferred_updates(out: &mut [u8], c: Cursor, p: SegmentationParams) -> Step
-    ensures { Walked (inferred_updates.enc (updates_out p)) c out.old result out.new }
+fn inferred_updates(w: &mut BitWriter, p: SegmentationParams) -> Result<(), Refusal>
+    ensures { Walked (inferred_updates.enc (updates_out p)) w.old w.new result }
 {
-    let s = inferred_flag(
-        out,
-        c,
-        p.segmentation_update_map,
-        true,
-        SEGMENTATION_UPDATE_MAP,
-        0,
-    );
-    let Step::Next(c) = s else {
-        return s;
-    };
-    let s = inferred_flag(
-        out,
-        c,
+    w.inferred_flag(p.segmentation_update_map, true, SEGMENTATION_UPDATE_MAP, 0)?;
+    w.inferred_flag(
         p.segmentation_temporal_update,
         false,
         SEGMENTATION_TEMPORAL_UPDATE,
         0,
-    );
-    let Step::Next(c) = s else {
-        return s;
-    };
-    inferred_flag(
-        out,
-        c,
+    )?;
+    w.inferred_flag(
         p.segmentation_update_data,
         true,
         SEGMENTATION_UPDATE_DATA,
@@ -138,45 +91,35 @@ fn inferred_updates(out: &mut [u8], c: Cursor, p: SegmentationParams) -> Step
     )
 }
 
-fn with_reference(out: &mut [u8], c: Cursor, p: SegmentationParams) -> Step
-    ensures { Walked (with_reference.enc (enabled_out p)) c out.old result out.new }
+fn with_reference(w: &mut BitWriter, p: SegmentationParams) -> Result<(), Refusal>
+    ensures { Walked (with_reference.enc (enabled_out p)) w.old w.new result }
 {
-    let s = coded_updates(out, c, p);
-    let Step::Next(c) = s else {
-        return s;
-    };
-    features_if(out, c, p)
+    coded_updates(w, p)?;
+    features_if(w, p)
 }
 
-fn without_reference(out: &mut [u8], c: Cursor, p: SegmentationParams) -> Step
-    ensures { Walked (without_reference.enc (enabled_out p)) c out.old result out.new }
+fn without_reference(w: &mut BitWriter, p: SegmentationParams) -> Result<(), Refusal>
+    ensures { Walked (without_reference.enc (enabled_out p)) w.old w.new result }
 {
-    let s = inferred_updates(out, c, p);
-    let Step::Next(c) = s else {
-        return s;
-    };
-    features_if(out, c, p)
+    inferred_updates(w, p)?;
+    features_if(w, p)
 }
 
 fn segmentation_params(
-    out: &mut [u8],
-    c: Cursor,
+    w: &mut BitWriter,
     p: SegmentationParams,
     context: SegmentationContext,
-) -> Step
-    ensures { Walked ((segmentation_params context).enc p) c out.old result out.new }
+) -> Result<(), Refusal>
+    ensures { Walked ((segmentation_params context).enc p) w.old w.new result }
 {
-    let s = flag(out, c, p.segmentation_enabled);
-    let Step::Next(c) = s else {
-        return s;
-    };
+    w.flag(p.segmentation_enabled)?;
     if p.segmentation_enabled {
         if context.primary_ref_frame == 7 {
-            return without_reference(out, c, p);
+            return without_reference(w, p);
         }
-        return with_reference(out, c, p);
+        return with_reference(w, p);
     }
-    Step::Next(c)
+    Ok(())
 }
 
 // The part written from the bit `place` of `out` on.
@@ -185,11 +128,15 @@ pub fn write_segmentation_params(
     context: SegmentationContext,
     out: &mut [u8],
     place: u32,
-) -> Answer
+) -> Result<u32, Refusal>
     ensures { Writes ((segmentation_params context).enc p) place out.old result out.new }
 {
     let mut near = [0u8; (SEGMENTATION_PARAMS_MAX_BITS + SPARE_BITS) / 64 * 8];
     lend(out, place, &mut near);
-    let s = segmentation_params(&mut near, start(place), p, context);
-    settle(s, place, &near, out)
+    let mut w = BitWriter {
+        out: &mut near,
+        at: start(place),
+    };
+    let walk = segmentation_params(&mut w, p, context);
+    settle(walk, &w, place, out)
 }

@@ -8,10 +8,14 @@ ghost use Rattle.parts.specs.Written.{Writes};
 ghost use Rattle.segmentation_numbers.specs.Numbers.{segmentation_walk};
 
 use crate::record::*;
-use bits::answer::Answer;
+use bits::answer::Refusal;
 use segmentation::write::write_segmentation_params;
 
-pub fn write_segmentation_numbers(record: &[i32; 133], out: &mut [u8], place: u32) -> Answer
+pub fn write_segmentation_numbers(
+    record: &[i32; 133],
+    out: &mut [u8],
+    place: u32,
+) -> Result<u32, Refusal>
     ensures { Writes (segmentation_walk «record».now) place out.old result out.new }
 {
     write_segmentation_params(

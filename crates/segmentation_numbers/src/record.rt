@@ -1,4 +1,4 @@
-// The record of the segmentation parameters from its numbers, the context first.
+// The record of the segmentation parameters from its numbers, the context first. (No `From`: neither the array nor the record is of this crate.)
 ghost use Rattle.std.specs.Prelude.{◌≡◌};
 ghost use Rattle.segmentation_numbers.specs.Held.{held_segmentation};
 ghost use Rattle.segmentation_numbers.specs.Numbers.{segmentation_context, segmentation_params};
@@ -38,14 +38,12 @@ fn feature_data(n: &[i32; 133]) -> [i16; 64]
 pub fn segmentation_params(n: &[i32; 133]) -> SegmentationParams
     ensures { result ≡ held_segmentation (segmentation_params n.now) }
 {
-    let feature_enabled = feature_enabled(n);
-    let feature_data = feature_data(n);
     SegmentationParams {
         segmentation_enabled: flag(n, place::SEGMENTATION_ENABLED),
         segmentation_update_map: flag(n, place::SEGMENTATION_UPDATE_MAP),
         segmentation_temporal_update: flag(n, place::SEGMENTATION_TEMPORAL_UPDATE),
         segmentation_update_data: flag(n, place::SEGMENTATION_UPDATE_DATA),
-        feature_enabled,
-        feature_data,
+        feature_enabled: feature_enabled(n),
+        feature_data: feature_data(n),
     }
 }

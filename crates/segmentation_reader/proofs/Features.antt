@@ -1,45 +1,62 @@
 -- How the features are read, one behind the other, and what is stored where they are clear.
-use mathlib.Core.Path.{◌≡◌, refl}
+use mathlib.Core.Path.{◌≡◌, refl, ap, ◌∙◌}
 use mathlib.Core.List.{List}
 use mathlib.Core.Bool.{false}
 use Prim.Native.Nat.{ℕ, suc, ◌+◌, ◌-◌, ◌<◌, ◌≤◌}
 use native.Mathlib.Omega.{arith}
+use lib.Dec.{lit≤}
 use lib.IntN.{ℤ, pos}
 use lib.ListN.{set, replicate}
 use borrow.Author.Tests.{lt-ltb}
-use Rattle.bits.specs.Codec.{absent, array, choose, inferred_flag, via, ◌▷◌}
+use mir.Syntax.{w32}
+use mir.Val.{to_z, of_z}
+use mir.Facts.{to_z-of_z}
+use Rattle.std.specs.Prelude.{Result, Ok, Err, IsErrAnd}
+use Rattle.bits.specs.Codec.{absent, array, choose, inferred_flag, via, ◌▷◌, Nil, nil}
 use Rattle.bits.specs.Codes.{su}
-use Rattle.bits.specs.declared.answer.Cursor.{Cursor}
 use Rattle.bits.specs.declared.answer.Refusal.{Refusal}
-use Rattle.bits.specs.declared.answer.Step.{Step}
-use Rattle.bits.specs.declared.answer.Step.TheVariants.{Next, Refused}
-use Rattle.fill.specs.Fills.{same, at, each, nowhere, of, whole, ◌▸◌, Fills}
-use Rattle.fill.proofs.Filling.{Laid, begin, struct, final_at, settled, fixed, group_on, halted, final}
-use Rattle.fill.proofs.Looping.{Rest, rest_halt, rest_end}
+use Rattle.reader.specs.declared.BitReader.{BitReader}
+use Rattle.reader.specs.Reading.{Said}
+use Rattle.reader.proofs.Reading.{By, by, read_by, fixed}
+use Rattle.fill.specs.Fills.{same, at, each, nowhere, of, ◌▸◌, Fills}
+use Rattle.fill.proofs.Filling.{Laid, begin, struct, put_last, settled, group_on}
+use Rattle.fill.proofs.Signs.{signed_fillings}
+use Rattle.fill.proofs.Looping.{Rest, rest_all, rest_halt, rest_end}
 use Rattle.parts.specs.Codes.{inferred_signed, trimmed, zip}
 use Rattle.parts.specs.Codes as codes
 use Rattle.parts.proofs.Pairs.{zip-back}
-use Rattle.parts_reader.proofs.Storing.{part_fillings, part_halts, onward_bit}
 use Rattle.segmentation.specs.Segmentation.{signed_value, unsigned_value, feature_value, feature, features, no_flags, no_data, no_features, none}
-use Rattle.segmentation_reader.specs.Layout.{feature_place, features_place, enabled_place}
+use Rattle.segmentation_reader.specs.Layout.{feature_place, features_place}
+use Rattle.segmentation_reader.proofs.Values.{value_fits}
 
--- reading a value does not look at the index
-pub final_value : (j i k : ℕ) {xs : List ℕ} {p : Cursor} {s : Step} {w v : ℤ} {m : List ℤ} → Fills whole (feature_value j 0).dec xs p s w v → Laid (at (pos 0) k same) (feature_value j i) xs p s m (set m k v)
-unfolding feature_value signed_value unsigned_value trimmed codes.natural su choose
-final_value j i k f = final_at (pos 0) k same (feature_value j i) f
+-- a value is read whatever its index
+module _ (j i : ℕ) where
+  by_value : By (feature_value j i) (feature_value j 0).dec
+  unfolding feature_value signed_value unsigned_value trimmed codes.natural su choose
+  by_value = by (λ bs. refl)
+
+  pub value_of : {p q : BitReader} {r : Result ℤ Refusal} → Said (feature_value j 0).dec p q r → Said (feature_value j i).dec p q r
+  value_of s = read_by (feature_value j i) s by_value
+
+module _ (j i o : ℕ) {p q : BitReader} {m z : List ℤ} {v : ℤ} where
+  pub put_value : Said (feature_value j 0).dec p q (Ok v) → z ≡ set m o (to_z w32 (of_z w32 v)) → Laid (at (pos 0) o same) (feature_value j i) p q (Ok nil) m z
+  put_value s e = put_last (pos 0) o same (feature_value j i) (value_of j i s) (e ∙ ap (set m o) (to_z-of_z (value_fits j 0 s)))
 
 -- the loop over the features
-abbrev pub Left : List ℕ → Cursor → List ℤ → Cursor → List ℤ → ℕ → Type 0
-Left xs c m₀ p m i = Rest (false, pos 0) feature_place feature 64 64 xs c m₀ p m i
+abbrev pub Left : BitReader → List ℤ → BitReader → List ℤ → ℕ → Type 0
+Left old m₀ p m i = Rest (false, pos 0) feature_place feature 64 64 old m₀ p m i
 
-module _ {xs : List ℕ} {c p : Cursor} {m₀ m : List ℤ} {i : ℕ} (r : Left xs c m₀ p m i) where
-  pub features_halt : i < 64 → {u : Step} {o z : List ℤ} {y : Refusal} → u ≡ Refused y → Fills (feature_place i) (feature i).dec xs p u m o → Fills features_place features.dec xs c u m₀ z
-  unfolding features features_place
-  features_halt h e f = begin _ (struct _ _ _ _ (zip-back false (pos 0)) (rest_halt r h e f))
+pub features_start : {p : BitReader} {m : List ℤ} → Left p m p m 0
+features_start = rest_all (lit≤ tt)
 
-  pub features-end : 64 ≤ i → Fills features_place features.dec xs c (Next p) m₀ m
+module _ {old p : BitReader} {m₀ m : List ℤ} {i : ℕ} (r : Left old m₀ p m i) where
+  pub features_halt : i < 64 → {q : BitReader} {g : Result Nil Refusal} {o z : List ℤ} {y : Refusal} → Fills (feature_place i) (feature i).dec p q (Err y) m o → IsErrAnd g (λ z. z ≡ y) → Fills features_place features.dec old q g m₀ z
   unfolding features features_place
-  features-end h = begin _ (struct _ _ _ _ (zip-back false (pos 0)) (rest_end r h))
+  features_halt h f e = begin _ (struct _ _ _ _ (zip-back false (pos 0)) (rest_halt r h f e))
+
+  pub features_end : 64 ≤ i → Fills features_place features.dec old p (Ok nil) m₀ m
+  unfolding features features_place
+  features_end h = begin _ (struct _ _ _ _ (zip-back false (pos 0)) (rest_end r h))
 
 -- the loop that clears them
 pub record Clearing (m₀ m : List ℤ) (i : ℕ) : Type 0 where
@@ -63,17 +80,8 @@ module _ {m₀ m : List ℤ} {i : ℕ} (r : Clearing m₀ m i) where
   clearing_end h = let b : 64 - i ≡ 0 = omega arith in rw b at r.rest
 
 -- clear features, that are not coded
-pub no_features_laid : {xs : List ℕ} {p : Cursor} {m z : List ℤ} → z ≡ features_place.put none.1 m → Laid features_place no_features xs p (Next p) m z
+pub no_features_laid : {p : BitReader} {m z : List ℤ} → z ≡ features_place.put none.1 m → Laid features_place no_features p p (Ok nil) m z
 unfolding no_features no_flags no_data array via ◌▷◌ choose inferred_flag inferred_signed absent
 no_features_laid e = settled no_features none.1 (fixed (λ bs. refl)) e
 
-pub disabled_laid : {xs : List ℕ} {p : Cursor} {m z : List ℤ} → z ≡ features_place.put none.1 (set (set (set m 2 (pos 0)) 3 (pos 0)) 4 (pos 0)) → Laid enabled_place (absent none) xs p (Next p) m z
-unfolding enabled_place ◌▸◌ at absent
-disabled_laid e = settled (absent none) none (fixed (λ bs. refl)) e
-
-pub ruleset feature_fillings = (part_fillings, group_on, final_value, no_features_laid, disabled_laid)
-
-pub ruleset feature_halts = (feature_fillings, part_halts)
-
--- flags in a group, and what comes behind them
-pub ruleset update_fillings = (begin, group_on, onward_bit, halted, final)
+pub ruleset feature_fillings = (signed_fillings, group_on, value_of, put_value, no_features_laid, features_start, features_halt, features_end, clearing_all, clearing_on, clearing_end)

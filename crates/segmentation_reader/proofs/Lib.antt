@@ -1,4 +1,4 @@
 pub mod Values
 pub mod Features
+pub mod Enabling
 pub mod RoundTrip
-pub mod Clearing

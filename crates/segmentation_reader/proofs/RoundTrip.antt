@@ -1,7 +1,7 @@
 -- Over and back. What is written reads back as it was coded, values as clipped. What is read is written again, in as many bits: by the same bits, but for
 -- a value beyond its limit, which is written as it was clipped (`Clipped`).
 use mathlib.Core.Path.{◌≡◌, refl, sym, ap, ◌∙◌}
-use mathlib.Core.List.{List, [], ◌∷◌, ◌++◌}
+use mathlib.Core.List.{[], ◌∷◌, ◌++◌}
 use mathlib.Core.Bool.{Bool, true, false, cond}
 use Prim.Native.Nat.{ℕ, zero, suc, ◌+◌, ◌*◌, ◌-◌, ◌<◌, ◌≤◌, ◌^◌}
 use native.Mathlib.Omega.{arith}
@@ -12,7 +12,6 @@ use lib.Signed.{lt_z}
 use lib.Pow.{pow_pos, pow-add}
 use lib.ListN.{length, length-append, get_or-map}
 use Rattle.bits.specs.Bits.{Bits, to_bits}
-use Rattle.bits.specs.Walk.{run}
 use Rattle.bits.specs.Codec.{got, field_as}
 use Rattle.bits.specs.Codes.{su, su_out, su_in}
 use Rattle.bits.specs.declared.answer.Refusal.{Refusal}

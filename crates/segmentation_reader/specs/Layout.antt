@@ -1,8 +1,6 @@
 -- Where each segmentation parameter stands in the record's numbers, behind the context's.
-use Rattle.std.specs.Prelude.{◌≡◌, List, ◌∷◌, Bool, true, false, ℕ, ◌+◌, ℤ, pos}
-use Rattle.bits.specs.Bits.{Bits, from}
+use Rattle.std.specs.Prelude.{List, Bool, false, ℕ, ◌+◌, ℤ, pos}
 use Rattle.bits.specs.Codec.{Codec}
-use Rattle.bits.specs.declared.answer.Cursor.{Cursor}
 use Rattle.fill.specs.Fills.{same, signed_bit, of, each, ◌▸◌}
 use Rattle.parts.specs.Codes.{zip, firsts, seconds}
 use Rattle.parts_reader.specs.Reading.{In, number_at}
@@ -26,7 +24,3 @@ segmentation_place = of segmentation_out segmentation_in (number_at 1 signed_bit
 -- the table by the context that stands in the numbers
 abbrev pub segmentation_by : List ℤ → Codec SegmentationParams
 segmentation_by ns = segmentation_params (segmentation_context ns)
-
--- where r is true, the flag at c is clear: only contracts of functions inside cite this
-pub data Clear (xs : List ℕ) (c : Cursor) (r : Bool) : Type 0 where
-  clear : (r ≡ true → (rest : Bits) × (from xs c.at ≡ false ∷ rest)) → Clear xs c r

@@ -3,8 +3,7 @@ use mathlib.Core.Path.{◌≡◌, sym, ap, ◌∙◌}
 use mathlib.Core.List.{List}
 use Prim.Native.Nat.{ℕ}
 use Rattle.bits.specs.Codec.{via}
-use Rattle.bits.specs.declared.answer.Answer.{Answer}
-use Rattle.bits.specs.Written.{Written}
+use Rattle.bits.specs.Written.{Answer, Written}
 use Rattle.obu.specs.Writer.{Writes, writes}
 use Rattle.obu.proofs.Blind.{same-written}
 use Rattle.sequence.specs.declared.record.SequenceHeaderObu.{SequenceHeaderObu}

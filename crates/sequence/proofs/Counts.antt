@@ -12,7 +12,7 @@ use Rattle.bits.specs.Codes.{uvlc}
 use Rattle.bits.proofs.Laws.{join_inv}
 use Rattle.bits.proofs.Leaves.{f_fits}
 use Rattle.bits.proofs.Widths.{up_to_most}
-use Rattle.bits.proofs.Walking.{bounded}
+use Rattle.bits.proofs.Lengths.{bounded}
 use Rattle.bits.proofs.Counting.{Few, few_by, few_then, total, array-few, unshort}
 use Rattle.sequence.specs.declared.record.DecoderModelInfo.{DecoderModelInfo}
 use Rattle.sequence.specs.declared.record.OperatingPoint.{OperatingPoint}

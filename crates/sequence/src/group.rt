@@ -9,6 +9,14 @@ pub struct OperatingParametersInfo {
     pub low_delay_mode_flag: bool,
 }
 
+// What the header says of all its points: whether they have a decoder model, the width of its delays, and whether they have a display delay.
+#[derive(Clone, Copy)]
+pub struct PointForm {
+    pub has_model: bool,
+    pub width: u32,
+    pub has_delay: bool,
+}
+
 #[derive(Clone, Copy)]
 pub struct PointModel {
     pub decoder_model_present_for_this_op: bool,

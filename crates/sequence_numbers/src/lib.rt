@@ -12,19 +12,21 @@ ghost use Rattle.sequence_reader.specs.Layouts.{header_of, record_of};
 
 use crate::header::obu_header;
 use crate::record::sequence_header;
-use bits::answer::Answer;
+use bits::answer::Refusal;
 use obu::delimiter::write_temporal_delimiter;
 use sequence_reader::place;
 use sequence_writer::write::write_sequence_header;
 
-pub fn write_sequence_numbers(record: &[u32; place::NUMBERS], out: &mut [u8]) -> Answer
+pub fn write_sequence_numbers(
+    record: &[u32; place::NUMBERS],
+    out: &mut [u8],
+) -> Result<u32, Refusal>
     ensures { Writes (sequence_header.enc (record_of «record».now)) out.old result out.new }
 {
-    let h = sequence_header(record);
-    write_sequence_header(h, out)
+    write_sequence_header(sequence_header(record), out)
 }
 
-pub fn write_delimiter_numbers(record: &[u32; 5], out: &mut [u8]) -> Answer
+pub fn write_delimiter_numbers(record: &[u32; 5], out: &mut [u8]) -> Result<u32, Refusal>
     ensures { Writes (temporal_delimiter (header_of «record».now)) out.old result out.new }
 {
     let h = obu_header(

@@ -6,25 +6,22 @@ use native.Mathlib.Omega.{arith}
 use lib.ListN.{length, drop}
 use Rattle.bits.specs.Bits.{Bits}
 use Rattle.bits.specs.Walk.{Walk, refused, run}
-use Rattle.bits.specs.Codec.{Got, got, stop}
+use Rattle.bits.specs.Codec.{Got, got, stop, Nil, nil}
 use Rattle.bits.specs.declared.answer.Refusal.{Refusal}
-use Rattle.bits.specs.declared.answer.Answer.{Answer}
-use Rattle.bits.specs.declared.answer.Answer.TheVariants as W
-use Rattle.bits.specs.Written.{Written}
+use Rattle.bits.specs.Written.{Answer, Written}
+use Rattle.std.specs.Prelude.{Result, Ok, Err}
 use Rattle.obu.specs.Writer.{written, Writes, writes}
 use Rattle.obu.specs.Demand3.{AreBytes, read, Consistent, Spells, Shortest}
 use Rattle.obu.proofs.Writing.{refusing}
 use Rattle.sequence.specs.declared.record.SequenceHeaderObu.{SequenceHeaderObu}
 use Rattle.sequence.specs.Sequence.{sequence_header}
 use Rattle.sequence.proofs.Demand.{sequence_demand3}
-use Rattle.sequence_reader.specs.declared.read.Outcome.{Outcome}
-use Rattle.sequence_reader.specs.declared.read.Outcome.TheVariants.{Done, Refused}
 use Rattle.sequence_reader.specs.Layouts.{numbers_of}
 use Rattle.sequence_reader.specs.Reader as R
 use Rattle.sequence_reader.specs.Reader.{answer_for, Answers}
 
 -- one answer, and one content, for every input
-pub only : (xs ns : List ℕ) {o p : Outcome} {ms ls : List ℕ} → Answers xs ns o ms → Answers xs ns p ls → (o ≡ p) × (ms ≡ ls)
+pub only : (xs ns : List ℕ) {o p : Result Nil Refusal} {ms ls : List ℕ} → Answers xs ns o ms → Answers xs ns p ls → (o ≡ p) × (ms ≡ ls)
 only xs ns a b = let e = a ∙ sym b in (ap (λ (x : R.Answered). x.outcome) e, ap (λ (x : R.Answered). x.numbers) e)
 
 -- what was read, where the answer is that it was
@@ -34,17 +31,17 @@ pub record Accepted (xs ms : List ℕ) : Type 0 where
   pub reads : read sequence_header xs ≡ got it rest
   pub numbers : ms ≡ numbers_of it
 
-pub accepted : (xs ns : List ℕ) {o : Outcome} {ms : List ℕ} → Answers xs ns o ms → o ≡ Done → Accepted xs ms
+pub accepted : (xs ns : List ℕ) {o : Result Nil Refusal} {ms : List ℕ} → Answers xs ns o ms → o ≡ Ok nil → Accepted xs ms
 unfolding answer_for
 accepted xs ns {o} {ms} a e = go (read sequence_header xs) refl
   where
     go : (g : Got SequenceHeaderObu) → read sequence_header xs ≡ g → Accepted xs ms
     go (got h rest) k = record { it = h; rest = rest; reads = k; numbers = ap (λ (x : R.Answered). x.numbers) (rw k at a) }
-    go (stop r) k = absurd (let w : o ≡ Refused r = ap (λ (x : R.Answered). x.outcome) (rw k at a) in let n : ◌≡◌ {A = ℕ} 0 1 = cc in omega arith)
+    go (stop r) k = absurd (let w : o ≡ Err r = ap (λ (x : R.Answered). x.outcome) (rw k at a) in let n : ◌≡◌ {A = ℕ} 0 1 = cc in omega arith)
 
 -- Accepted exactly when some consistent record has the bytes as a spelling: what is accepted is spelled by the record whose numbers are left, which is
 -- consistent; its fields that are neither coded nor checked are 0, and its inferred ones have the inferred value, as its walk checks.
-pub accepted_is_spelled : (xs ns : List ℕ) → AreBytes xs → {o : Outcome} {ms : List ℕ} → Answers xs ns o ms → o ≡ Done
+pub accepted_is_spelled : (xs ns : List ℕ) → AreBytes xs → {o : Result Nil Refusal} {ms : List ℕ} → Answers xs ns o ms → o ≡ Ok nil
     → (h : SequenceHeaderObu) × (ms ≡ numbers_of h) × Consistent sequence_header h × Spells sequence_header h xs × (sequence_header.coded h ≡ h)
 accepted_is_spelled xs ns X a e =
     let g = accepted xs ns a e in
@@ -52,7 +49,7 @@ accepted_is_spelled xs ns X a e =
     (g.it, g.numbers, d.0, d.1, d.2)
 
 -- .. and every spelling is accepted, with the record's coded fields.
-pub spelled_is_accepted : (h : SequenceHeaderObu) (xs ns : List ℕ) → Spells sequence_header h xs → {o : Outcome} {ms : List ℕ} → Answers xs ns o ms → R.answer o ms ≡ R.answer Done (numbers_of (sequence_header.coded h))
+pub spelled_is_accepted : (h : SequenceHeaderObu) (xs ns : List ℕ) → Spells sequence_header h xs → {o : Result Nil Refusal} {ms : List ℕ} → Answers xs ns o ms → R.answer o ms ≡ R.answer (Ok nil) (numbers_of (sequence_header.coded h))
 unfolding answer_for
 spelled_is_accepted h xs ns s a = a ∙ rw (sequence_demand3.spelled_is_accepted h xs s)
 
@@ -69,8 +66,8 @@ as_written e (writes p q) = (p ∙ ap (λ (x : Written). x.answer) e, q ∙ ap (
 pub record WrittenAs (h : SequenceHeaderObu) (es : List ℕ) : Type 0 where
   pub shortest : Shortest sequence_header h es
   pub given : (buffer : List ℕ) → AreBytes buffer → length es ≤ length buffer → length buffer ≤ 65536 → {w : Answer} {ys : List ℕ} → Writes (sequence_header.enc h) buffer w ys
-      → (w ≡ W.Done (length es)) × (ys ≡ es ++ drop (length es) buffer)
-  pub read_back : (ns : List ℕ) {o : Outcome} {ms : List ℕ} → Answers es ns o ms → R.answer o ms ≡ R.answer Done (numbers_of (sequence_header.coded h))
+      → (w ≡ Ok (length es)) × (ys ≡ es ++ drop (length es) buffer)
+  pub read_back : (ns : List ℕ) {o : Result Nil Refusal} {ms : List ℕ} → Answers es ns o ms → R.answer o ms ≡ R.answer (Ok nil) (numbers_of (sequence_header.coded h))
 
 -- Every consistent record is written so.
 pub consistent_is_written : (h : SequenceHeaderObu) → Consistent sequence_header h → (es : List ℕ) × WrittenAs h es
@@ -84,5 +81,5 @@ written-again h xs s = consistent_is_written h (sequence_demand3.spelled_is_cons
 
 -- A record that is not consistent is refused by its walk's refusal, and no byte changes.
 pub inconsistent_is_refused : (h : SequenceHeaderObu) (why : Refusal) → (run (sequence_header.enc h)).end ≡ refused why → (buffer : List ℕ) → length buffer ≤ 65536
-    → {w : Answer} {ys : List ℕ} → Writes (sequence_header.enc h) buffer w ys → (w ≡ W.Refused why) × (ys ≡ buffer)
+    → {w : Answer} {ys : List ℕ} → Writes (sequence_header.enc h) buffer w ys → (w ≡ Err why) × (ys ≡ buffer)
 inconsistent_is_refused h why e buffer l p = as_written (refusing (sequence_header.enc h) buffer why l e) p

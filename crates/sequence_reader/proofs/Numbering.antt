@@ -4,8 +4,10 @@ use mathlib.Core.List.{List}
 use Prim.Native.Nat.{ℕ, ◌+◌, ◌*◌}
 use native.Mathlib.Omega.{arith}
 use lib.ListN.{replicate, length-replicate}
+use Rattle.std.specs.Prelude.{Result, Ok}
 use Rattle.bits.specs.Bits.{Bits}
-use Rattle.bits.specs.Codec.{got, nil}
+use Rattle.bits.specs.declared.answer.Refusal.{Refusal}
+use Rattle.bits.specs.Codec.{got, Nil, nil}
 use Rattle.obu.specs.Demand3.{read}
 use Rattle.obu.specs.Header.{header_out, header_in}
 use Rattle.fill.proofs.Lying.{Lies, Any, Items, lies_of, lies_both, lies_then, lies_each, within, word_at, flag_at, Stands, stands, word_stands, flag_stands, none_stands, both_stand, struct_stands, any_both, any_struct}
@@ -15,8 +17,6 @@ use Rattle.sequence.specs.declared.group.Points.{Points}
 use Rattle.sequence.specs.Fields as fields
 use Rattle.sequence.specs.Points.{no_point}
 use Rattle.sequence.specs.Sequence.{sequence_header}
-use Rattle.sequence_reader.specs.declared.read.Outcome.{Outcome}
-use Rattle.sequence_reader.specs.declared.read.Outcome.TheVariants.{Done}
 use Rattle.sequence_reader.specs.Layouts as row
 use Rattle.sequence_reader.specs.Layouts.{numbers_of, record_of}
 use Rattle.sequence_reader.specs.Places.{numbers}
@@ -107,7 +107,7 @@ record_back h u = go whole
     go (stands W) = (W 0).back h u (replicate numbers 0) (rw (length-replicate {A = ℕ} numbers 0) (omega arith))
 
 -- what the public reader leaves are the numbers of the record that is read, which they are
-pub record_is : (xs ns : List ℕ) {o : Outcome} {ms : List ℕ} → Answers xs ns o ms → o ≡ Done → (rest : Bits) × (read sequence_header xs ≡ got (record_of ms) rest)
+pub record_is : (xs ns : List ℕ) {o : Result Nil Refusal} {ms : List ℕ} → Answers xs ns o ms → o ≡ Ok nil → (rest : Bits) × (read sequence_header xs ≡ got (record_of ms) rest)
 record_is xs ns {ms = ms} a e =
     let g = accepted xs ns a e in
     let s = (record_sets xs g.it g.rest g.reads).points in

@@ -1,5 +1,5 @@
 -- Where the payload begins, and the part that is handed back.
-use mathlib.Core.Path.{◌≡◌, sym, ap, ◌∙◌}
+use mathlib.Core.Path.{◌≡◌, refl, sym, ap, ◌∙◌}
 use mathlib.Core.List.{List}
 use mathlib.Core.Logic.{⊎_elim}
 use Prim.Native.Nat.{ℕ, ◌+◌, ◌-◌, ◌/◌, ◌^◌, ◌<◌, ◌≤◌}
@@ -8,28 +8,22 @@ use lib.ListN.{length, take, drop, length-drop}
 use lib.Seq.{length-take-le}
 use denote.Ref.{Bor}
 use Rattle.bits.specs.Bits.{end}
-use Rattle.bits.specs.Codec.{Got, got, stop, nil}
-use Rattle.bits.specs.Answers.{found, Said, step}
-use Rattle.bits.specs.declared.answer.Cursor.{Cursor}
+use Rattle.std.specs.Prelude.{Ok, Err}
+use Rattle.bits.specs.Codec.{Got, got, stop, Nil}
+use Rattle.bits.specs.Answers.{found}
 use Rattle.bits.specs.declared.answer.Refusal.{Refusal}
-use Rattle.bits.specs.declared.answer.Step.{Step}
-use Rattle.bits.specs.declared.answer.Step.TheVariants as S
 use Rattle.bits.proofs.Places.{end_is, length_from}
-use Rattle.bits.proofs.Reading.{is, is_not}
 use Rattle.bits.proofs.Storing.{below_or}
+use Rattle.reader.specs.declared.BitReader.{BitReader}
+use Rattle.reader.specs.Reading.{Said}
+use Rattle.reader.proofs.Reading.{reads_at, kept}
 use Rattle.obu.specs.declared.header.ObuHeader.{ObuHeader}
-use Rattle.obu.specs.declared.read.GotHeader.{GotHeader}
-use Rattle.obu.specs.declared.read.GotHeader.TheVariants as H
-use Rattle.obu.specs.Answers.{header}
 use Rattle.obu.specs.Header.{obu_header}
 use Rattle.obu.specs.Framing.{read_size}
 use Rattle.obu.specs.Demand3.{read}
-use Rattle.obu.proofs.Writing.{origin}
 use Rattle.obu.proofs.ObuReading.{read_long}
 use Rattle.sequence.specs.Sequence.{sequence_header}
 use Rattle.sequence_reader.specs.declared.read.Part.{Part}
-use Rattle.sequence_reader.specs.declared.read.Outcome.{Outcome}
-use Rattle.sequence_reader.specs.declared.read.Outcome.TheVariants.{Done, Refused}
 use Rattle.sequence_reader.specs.Reader.{Holds}
 use Rattle.sequence_reader.proofs.Answering.{was_held, not-held}
 use Rattle.sequence_reader.specs.Payload.{behind, part_for, payload_part, part, Hands, hands}
@@ -37,22 +31,24 @@ use Rattle.sequence_reader.specs.Payload.{behind, part_for, payload_part, part, 
 none : (n : ℕ) → n ≡ n - 0 / 8
 none n = omega arith
 
-module _ (xs : List ℕ) {g : GotHeader} (head : Said header (obu_header 1).dec xs origin g) where
-  pub behind-none : {z : Refusal} → g ≡ H.Refused z → length xs ≡ behind xs
+-- over the reader s of the whole input x
+module _ {x : Bor (List ℕ)} {s : BitReader} (is : (s.bytes ≡ x) × (s.at ≡ 0)) {a : BitReader} where
+  pub behind-none : {y : Refusal} → Said (obu_header 1).dec s a (Err y) → length x.now ≡ behind x.now
   unfolding behind found
-  behind-none {z} e = rw (is_not {y = z} {z = z} head e (rw e)).finds (none (length xs))
+  behind-none H = rw (← is.0, ← is.1, (reads_at s H refl).finds) (none (length s.bytes.now))
 
-  module _ {h : ObuHeader} {c : Cursor} (e : g ≡ H.Value h c) {s : Step} (Z : Said step (read_size h.has_size_field) xs c s) where
-    pub behind_no : {z : Refusal} → s ≡ S.Refused z → length xs ≡ behind xs
+  module _ {h : ObuHeader} (H : Said (obu_header 1).dec s a (Ok h)) {b : BitReader} where
+    pub behind_no : {y : Refusal} → Said (read_size h.has_size_field) a b (Err y) → length x.now ≡ behind x.now
     unfolding behind found
-    behind_no {z} f = rw ((is {a = h} {q = c} head e).finds, (is_not {y = z} {z = z} Z f (rw f)).finds) (none (length xs))
+    behind_no Z = rw (← is.0, ← is.1, (reads_at s H refl).finds, (reads_at s Z (kept H)).finds) (none (length s.bytes.now))
 
-    pub behind_is : {d : Cursor} {n : ℕ} → s ≡ S.Next d → n ≡ end xs - d.at → length xs - n / 8 ≡ behind xs
-    unfolding behind found
-    behind_is {d} f k = rw ((is {a = h} {q = c} head e).finds, (is {a = nil} {q = d} Z f).finds, length_from xs d.at, k)
+    module _ {u : Nil} (Z : Said (read_size h.has_size_field) a b (Ok u)) {n : ℕ} (k : n ≡ end b.bytes.now - b.at) where
+      pub bits-within : n / 8 ≤ length x.now
+      bits-within = let e : b.bytes ≡ x = kept Z ∙ kept H ∙ is.0 in let w : n ≡ end x.now - b.at = rw e at k in omega (arith, end_is x.now)
 
-pub bits-within : (xs : List ℕ) (at n : ℕ) → n ≡ end xs - at → n / 8 ≤ length xs
-bits-within xs at n k = omega (arith, end_is xs)
+      pub behind_is : length x.now - n / 8 ≡ behind x.now
+      unfolding behind found
+      behind_is = let e : b.bytes ≡ s.bytes = kept Z ∙ kept H in let w : n ≡ end s.bytes.now - b.at = rw e at k in rw (← is.0, ← is.1, (reads_at s H refl).finds, (reads_at s Z (kept H)).finds, length_from s.bytes.now b.at, w)
 
 behind-within : (xs : List ℕ) → behind xs ≤ length xs
 unfolding behind
@@ -61,14 +57,14 @@ behind-within xs = omega arith
 pub behind-inside : (xs : List ℕ) {n : ℕ} → n ≡ behind xs → n ≤ length xs
 behind-inside xs e = rw e (behind-within xs)
 
-module _ (xs : List ℕ) {ns ms : List ℕ} {o : Outcome} (i : Holds xs ns o ms) where
-  pub part_none : {z : Refusal} → o ≡ Refused z → record { place = 0; size = 0 } ≡ payload_part xs
+module _ (xs : List ℕ) {ns ms : List ℕ} where
+  pub part_none : {y : Refusal} → Holds xs ns (Err y) ms → record { place = 0; size = 0 } ≡ payload_part xs
   unfolding payload_part
-  part_none h = rw (not-held i h)
+  part_none i = rw (not-held i)
 
-  pub part_some : {n : ℕ} → o ≡ Done → n ≡ behind xs → record { place = n; size = length xs - n } ≡ payload_part xs
+  pub part_some : {u : Nil} {n : ℕ} → Holds xs ns (Ok u) ms → n ≡ behind xs → record { place = n; size = length xs - n } ≡ payload_part xs
   unfolding payload_part
-  part_some h k = rw (k, (was_held i h).reads)
+  part_some i k = rw (k, (was_held i).reads)
 
 -- the part lies in the input, which has at most 65,536 bytes where there is one
 for_within : {A : Type 0} (g : Got A) (xs : List ℕ) → (part_for g xs).place + (part_for g xs).size ≤ length xs
@@ -109,3 +105,7 @@ handed_size {s} (hands p q) = ap length p ∙ length-take-le _ _ (size s.now)
   where
     size : (xs : List ℕ) → (payload_part xs).size ≤ length (drop (payload_part xs).place xs)
     size xs = simp length-drop (omega (arith, within xs))
+
+pub ruleset parts = (behind-none, behind_no, bits-within, behind_is, behind-inside, part_none, part_some)
+
+pub ruleset handed = (hands, part-ends, part_fits, part_is, part-place)

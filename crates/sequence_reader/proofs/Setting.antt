@@ -4,8 +4,10 @@ use mathlib.Core.List.{List}
 use Prim.Native.Nat.{ℕ}
 use lib.ListN.{length}
 use lib.Dec.{ltb}
+use Rattle.std.specs.Prelude.{Result, Ok}
 use Rattle.bits.specs.Bits.{Bits, bits_of}
-use Rattle.bits.specs.Codec.{Codec, got}
+use Rattle.bits.specs.declared.answer.Refusal.{Refusal}
+use Rattle.bits.specs.Codec.{Codec, got, Nil, nil}
 use Rattle.bits.proofs.Laws.{stop-got, then_inv, got-value}
 use Rattle.obu.specs.declared.header.ObuHeader.{ObuHeader}
 use Rattle.obu.specs.Header.{obu_header}
@@ -15,8 +17,6 @@ use Rattle.obu.specs.Demand3.{read}
 use Rattle.sequence.specs.declared.record.SequenceHeaderObu.{SequenceHeaderObu}
 use Rattle.sequence.specs.Fields.{sequence_out}
 use Rattle.sequence.specs.Sequence.{color_and_grain, tools_and_color, body, sequence_header_obu, sequence_header}
-use Rattle.sequence_reader.specs.declared.read.Outcome.{Outcome}
-use Rattle.sequence_reader.specs.declared.read.Outcome.TheVariants.{Done}
 use Rattle.sequence_reader.specs.Layouts.{numbers_of}
 use Rattle.sequence_reader.specs.Reader.{Answers}
 use Rattle.sequence_reader.proofs.Demand.{accepted}
@@ -64,5 +64,5 @@ unfolding sequence_header
 record_sets xs h rest e = let p = obu_parts _ _ (struct _ _ _ (λ _. refl) (found xs h rest e)) in sequence_sets h p.0 p.1
 
 -- .. and so in the record whose numbers the public reader leaves.
-pub reader_sets : (xs ns : List ℕ) {o : Outcome} {ms : List ℕ} → Answers xs ns o ms → o ≡ Done → (h : SequenceHeaderObu) × (ms ≡ numbers_of h) × Sets h
+pub reader_sets : (xs ns : List ℕ) {o : Result Nil Refusal} {ms : List ℕ} → Answers xs ns o ms → o ≡ Ok nil → (h : SequenceHeaderObu) × (ms ≡ numbers_of h) × Sets h
 reader_sets xs ns a e = let g = accepted xs ns a e in (g.it, g.numbers, record_sets xs g.it g.rest g.reads)

@@ -1,15 +1,12 @@
--- The rest of a table that a function of its own reads; and a choice in two variables. Only contracts of functions inside cite this.
+-- The rest of a table that a function of its own reads. Only contracts of functions inside cite this.
 use Rattle.std.specs.Prelude.{Bool, true, false, cond, List, ℕ, ◌+◌}
 use Rattle.bits.specs.Codec.{Codec, f, inferred, array, ◌▷◌}
 use Rattle.bits.specs.Elements.{decoder_model_info_present_flag, buffer_removal_time_length_minus_1, frame_presentation_time_length_minus_1, num_planes}
-use Rattle.fill.specs.Fills.{Layout, whole, of, ◌∥◌}
 use Rattle.fill.specs.Rows.{Row, word, ◌&◌}
 use Rattle.sequence.specs.declared.record.DecoderModelInfo.{DecoderModelInfo}
 use Rattle.sequence.specs.declared.record.OperatingPoint.{OperatingPoint}
-use Rattle.sequence.specs.declared.group.Choice.{Choice}
 use Rattle.sequence.specs.declared.group.Points.{Points}
 use Rattle.sequence.specs.declared.group.Planes.{Planes}
-use Rattle.sequence.specs.Fields.{choice_out, choice_in}
 use Rattle.sequence.specs.Optional.{flag_if}
 use Rattle.sequence.specs.Timing.{decoder_model_info, decoder_model_info_if}
 use Rattle.sequence.specs.Points.{operating_point, reduced_point, no_point, points}
@@ -40,9 +37,6 @@ model_rest =
 
 abbrev pub model_rest_row : Row (ℕ × (ℕ × ℕ))
 model_rest_row = word & word & word
-
-abbrev pub choice_apart : Layout (Bool × ℕ) Choice
-choice_apart = of choice_out choice_in (whole ∥ whole)
 
 -- the planes, and how many they are
 unfoldable pub counted_planes : ℕ → Bool → Bool → Bool → Codec (Planes × ℕ)

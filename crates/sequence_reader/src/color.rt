@@ -1,218 +1,165 @@
 // 5.5.2 color_config, read.
-ghost use Rattle.std.specs.Prelude.{◌≡◌, ◌&&◌, false, eqb};
-ghost use Rattle.fill.specs.Fills.{Fills, whole, ◌▸◌, ◌∥◌};
+ghost use Rattle.std.specs.Prelude.{◌≡◌};
+ghost use Rattle.fill.specs.Fills.{Fills, ◌▸◌};
 ghost use Rattle.fill.specs.Rows.{word};
-ghost use Rattle.sequence.specs.Optional.{f_if, flag_if};
-ghost use Rattle.sequence.specs.Color.{color_values, sampling, mono_planes, srgb_planes, other_planes, planes, color_rest, color_config};
+ghost use Rattle.reader.specs.Reading.{Said};
+ghost use Rattle.sequence.specs.Color.{color_description, srgb, sampling, mono_planes, srgb_planes, other_planes, planes, color_rest, color_config};
 ghost use Rattle.sequence_reader.specs.Layouts as row;
 ghost use Rattle.sequence_reader.specs.Places as place;
 ghost use Rattle.sequence_reader.specs.Tails.{counted_planes};
 
 use crate::optional::*;
 use crate::place;
-use bits::answer::*;
-use fill::*;
+use bits::answer::Refusal;
+use reader::BitReader;
+use sequence::group::ColorDescription;
 use sequence::record::plane_count;
 
-fn color_values(
-    s: &[u8],
-    c: Cursor,
-    present: bool,
-    primaries: &mut u32,
-    transfer: &mut u32,
-    matrix: &mut u32,
-) -> Step
-    ensures { Fills (whole ∥ whole ∥ whole) (color_values present).dec s.now c result (primaries.old, (transfer.old, matrix.old)) (primaries.new, (transfer.new, matrix.new)) }
+#[tactic(auto, using(crate::proofs::Steps::values), unfolding(sequence::specs::Color::color_description, sequence::specs::Color::color_values))]
+fn color_description(r: &mut BitReader) -> Result<ColorDescription, Refusal>
+    ensures { Said color_description.dec r.old r.new result }
 {
-    let t = f_if(s, c, present, 8, 2, primaries);
-    let Step::Next(c) = t else {
-        return t;
-    };
-    let t = f_if(s, c, present, 8, 2, transfer);
-    let Step::Next(c) = t else {
-        return t;
-    };
-    f_if(s, c, present, 8, 2, matrix)
+    let present = r.flag()?;
+    let color_primaries = f_if(r, present, 8, 2)?;
+    let transfer_characteristics = f_if(r, present, 8, 2)?;
+    let matrix_coefficients = f_if(r, present, 8, 2)?;
+    Ok(ColorDescription {
+        color_description_present_flag: present,
+        color_primaries,
+        transfer_characteristics,
+        matrix_coefficients,
+    })
 }
 
-fn srgb(primaries: u32, transfer: u32, matrix: u32) -> bool
-    ensures { result ≡ (eqb primaries 1 && (eqb transfer 13 && eqb matrix 0)) }
+fn srgb(d: &ColorDescription) -> bool
+    ensures { result ≡ srgb d.now }
 {
-    both(primaries == 1, both(transfer == 13, matrix == 0))
+    d.color_primaries == 1 && d.transfer_characteristics == 13 && d.matrix_coefficients == 0
 }
 
-fn subsampling_y(s: &[u8], c: Cursor, profile: u32, twelve: bool, x: bool, v: &mut bool) -> Step
-    ensures { Fills whole (flag_if (twelve && x) 0 0 (eqb profile 0)).dec s.now c result v.old v.new }
+#[tactic(auto, using(crate::proofs::Steps::fields), unfolding(sequence::specs::Color::sampling))]
+fn sampling(
+    r: &mut BitReader,
+    profile: u32,
+    twelve: bool,
+    n: &mut [u32; place::NUMBERS],
+) -> Result<(), Refusal>
+    ensures { Fills ((row.sampling).from place.sampling) (sampling profile twelve).dec r.old r.new result n.old n.new }
 {
-    let coded = both(twelve, x);
-    flag_if(s, c, coded, profile == 0, v)
-}
-
-fn chroma_sample_position(s: &[u8], c: Cursor, x: bool, y: bool, v: &mut u32) -> Step
-    ensures { Fills whole (f_if (x && y) 2 0 0 0).dec s.now c result v.old v.new }
-{
-    let coded = both(x, y);
-    f_if(s, c, coded, 2, 0, v)
-}
-
-fn sampling(s: &[u8], c: Cursor, profile: u32, twelve: bool, n: &mut [u32; place::NUMBERS]) -> Step
-    ensures { Fills ((row.sampling).from place.sampling) (sampling profile twelve).dec s.now c result n.old n.new }
-{
-    let mut x = false;
-    let t = flag_if(s, c, twelve, profile != 1, &mut x);
-    let Step::Next(c) = t else {
-        return t;
-    };
+    let x = flag_if(r, twelve, profile != 1)?;
     n[place::SUBSAMPLING_X] = x as u32;
-    let mut y = false;
-    let t = subsampling_y(s, c, profile, twelve, x, &mut y);
-    let Step::Next(c) = t else {
-        return t;
-    };
+    let y = flag_if(r, twelve & x, profile == 0)?;
     n[place::SUBSAMPLING_Y] = y as u32;
-    chroma_sample_position(s, c, x, y, &mut n[place::CHROMA_SAMPLE_POSITION])
+    n[place::CHROMA_SAMPLE_POSITION] = f_if(r, x & y, 2, 0)?;
+    Ok(())
 }
 
-fn mono_planes(s: &[u8], c: Cursor, n: &mut [u32; place::NUMBERS]) -> Step
-    ensures { Fills ((row.planes).from place.planes) mono_planes.dec s.now c result n.old n.new }
+#[tactic(auto, using(crate::proofs::Steps::fields), unfolding(sequence::specs::Color::mono_planes, sequence::specs::Color::fixed_sampling))]
+fn mono_planes(r: &mut BitReader, n: &mut [u32; place::NUMBERS]) -> Result<(), Refusal>
+    ensures { Fills ((row.planes).from place.planes) mono_planes.dec r.old r.new result n.old n.new }
 {
-    let t = mark(s, c, &mut n[place::COLOR_RANGE]);
-    let Step::Next(c) = t else {
-        return t;
-    };
+    n[place::COLOR_RANGE] = r.flag()? as u32;
     n[place::SUBSAMPLING_X] = 1;
     n[place::SUBSAMPLING_Y] = 1;
     n[place::CHROMA_SAMPLE_POSITION] = 0;
     n[place::SEPARATE_UV_DELTA_Q] = 0;
-    Step::Next(c)
+    Ok(())
 }
 
-fn srgb_planes(s: &[u8], c: Cursor, n: &mut [u32; place::NUMBERS]) -> Step
-    ensures { Fills ((row.planes).from place.planes) srgb_planes.dec s.now c result n.old n.new }
+#[tactic(auto, using(crate::proofs::Steps::fields), unfolding(sequence::specs::Color::srgb_planes, sequence::specs::Color::fixed_sampling))]
+fn srgb_planes(r: &mut BitReader, n: &mut [u32; place::NUMBERS]) -> Result<(), Refusal>
+    ensures { Fills ((row.planes).from place.planes) srgb_planes.dec r.old r.new result n.old n.new }
 {
     n[place::COLOR_RANGE] = 1;
     n[place::SUBSAMPLING_X] = 0;
     n[place::SUBSAMPLING_Y] = 0;
     n[place::CHROMA_SAMPLE_POSITION] = 0;
-    mark(s, c, &mut n[place::SEPARATE_UV_DELTA_Q])
+    n[place::SEPARATE_UV_DELTA_Q] = r.flag()? as u32;
+    Ok(())
 }
 
+#[tactic(auto, using(crate::proofs::Steps::fields), unfolding(sequence::specs::Color::other_planes))]
 fn other_planes(
-    s: &[u8],
-    c: Cursor,
+    r: &mut BitReader,
     profile: u32,
     twelve: bool,
     n: &mut [u32; place::NUMBERS],
-) -> Step
-    ensures { Fills ((row.planes).from place.planes) (other_planes profile twelve).dec s.now c result n.old n.new }
+) -> Result<(), Refusal>
+    ensures { Fills ((row.planes).from place.planes) (other_planes profile twelve).dec r.old r.new result n.old n.new }
 {
-    let t = mark(s, c, &mut n[place::COLOR_RANGE]);
-    let Step::Next(c) = t else {
-        return t;
-    };
-    let t = sampling(s, c, profile, twelve, n);
-    let Step::Next(c) = t else {
-        return t;
-    };
-    mark(s, c, &mut n[place::SEPARATE_UV_DELTA_Q])
+    n[place::COLOR_RANGE] = r.flag()? as u32;
+    sampling(r, profile, twelve, n)?;
+    n[place::SEPARATE_UV_DELTA_Q] = r.flag()? as u32;
+    Ok(())
 }
 
+#[tactic(auto, using(crate::proofs::Steps::fields), unfolding(sequence::specs::Color::planes))]
 fn planes(
-    s: &[u8],
-    c: Cursor,
+    r: &mut BitReader,
     profile: u32,
     twelve: bool,
     mono: bool,
     srgb: bool,
     n: &mut [u32; place::NUMBERS],
-) -> Step
-    ensures { Fills ((row.planes).from place.planes) (planes profile twelve mono srgb).dec s.now c result n.old n.new }
+) -> Result<(), Refusal>
+    ensures { Fills ((row.planes).from place.planes) (planes profile twelve mono srgb).dec r.old r.new result n.old n.new }
 {
     if mono {
-        return mono_planes(s, c, n);
+        return mono_planes(r, n);
     }
     if srgb {
-        return srgb_planes(s, c, n);
+        return srgb_planes(r, n);
     }
-    other_planes(s, c, profile, twelve, n)
+    other_planes(r, profile, twelve, n)
 }
 
+#[tactic(auto, using(crate::proofs::Steps::fields), unfolding(crate::specs::Tails::counted_planes))]
 fn counted_planes(
-    s: &[u8],
-    c: Cursor,
+    r: &mut BitReader,
     profile: u32,
     twelve: bool,
     mono: bool,
     srgb: bool,
     n: &mut [u32; place::NUMBERS],
-) -> Step
-    ensures { Fills ((row.planes).from place.planes ▸ word.from place.num_planes) (counted_planes profile twelve mono srgb).dec s.now c result n.old n.new }
+) -> Result<(), Refusal>
+    ensures { Fills ((row.planes).from place.planes ▸ word.from place.num_planes) (counted_planes profile twelve mono srgb).dec r.old r.new result n.old n.new }
 {
-    let t = planes(s, c, profile, twelve, mono, srgb, n);
-    let Step::Next(c) = t else {
-        return t;
-    };
+    planes(r, profile, twelve, mono, srgb, n)?;
     n[place::NUM_PLANES] = plane_count(mono);
-    Step::Next(c)
+    Ok(())
 }
 
+#[tactic(auto, using(crate::proofs::Steps::fields), unfolding(sequence::specs::Color::color_rest, crate::specs::Tails::counted_planes))]
 fn color_rest(
-    s: &[u8],
-    c: Cursor,
+    r: &mut BitReader,
     profile: u32,
     twelve: bool,
     mono: bool,
     n: &mut [u32; place::NUMBERS],
-) -> Step
-    ensures { Fills ((row.color_description).from place.color_description ▸ (row.planes).from place.planes ▸ word.from place.num_planes) (color_rest profile twelve mono).dec s.now c result n.old n.new }
+) -> Result<(), Refusal>
+    ensures { Fills ((row.color_description).from place.color_description ▸ (row.planes).from place.planes ▸ word.from place.num_planes) (color_rest profile twelve mono).dec r.old r.new result n.old n.new }
 {
-    let mut present = false;
-    let t = flag(s, c, &mut present);
-    let Step::Next(c) = t else {
-        return t;
-    };
-    n[place::COLOR_DESCRIPTION_PRESENT_FLAG] = present as u32;
-    let mut primaries = 0;
-    let mut transfer = 0;
-    let mut matrix = 0;
-    let t = color_values(s, c, present, &mut primaries, &mut transfer, &mut matrix);
-    let Step::Next(c) = t else {
-        return t;
-    };
-    n[place::COLOR_PRIMARIES] = primaries;
-    n[place::TRANSFER_CHARACTERISTICS] = transfer;
-    n[place::MATRIX_COEFFICIENTS] = matrix;
-    let is_srgb = srgb(primaries, transfer, matrix);
-    counted_planes(s, c, profile, twelve, mono, is_srgb, n)
+    let d = color_description(r)?;
+    n[place::COLOR_DESCRIPTION_PRESENT_FLAG] = d.color_description_present_flag as u32;
+    n[place::COLOR_PRIMARIES] = d.color_primaries;
+    n[place::TRANSFER_CHARACTERISTICS] = d.transfer_characteristics;
+    n[place::MATRIX_COEFFICIENTS] = d.matrix_coefficients;
+    counted_planes(r, profile, twelve, mono, srgb(&d), n)
 }
 
-fn twelve_bit(s: &[u8], c: Cursor, profile: u32, high: bool, v: &mut bool) -> Step
-    ensures { Fills whole (flag_if (eqb profile 2 && high) 0 0 false).dec s.now c result v.old v.new }
+#[tactic(auto, using(crate::proofs::Steps::fields), unfolding(sequence::specs::Color::color_config))]
+pub fn color_config(
+    r: &mut BitReader,
+    profile: u32,
+    n: &mut [u32; place::NUMBERS],
+) -> Result<(), Refusal>
+    ensures { Fills ((row.color_config).from place.color_config) (color_config profile).dec r.old r.new result n.old n.new }
 {
-    let coded = both(profile == 2, high);
-    flag_if(s, c, coded, false, v)
-}
-
-pub fn color_config(s: &[u8], c: Cursor, profile: u32, n: &mut [u32; place::NUMBERS]) -> Step
-    ensures { Fills ((row.color_config).from place.color_config) (color_config profile).dec s.now c result n.old n.new }
-{
-    let mut high = false;
-    let t = flag(s, c, &mut high);
-    let Step::Next(c) = t else {
-        return t;
-    };
+    let high = r.flag()?;
     n[place::HIGH_BITDEPTH] = high as u32;
-    let mut twelve = false;
-    let t = twelve_bit(s, c, profile, high, &mut twelve);
-    let Step::Next(c) = t else {
-        return t;
-    };
+    let twelve = flag_if(r, (profile == 2) & high, false)?;
     n[place::TWELVE_BIT] = twelve as u32;
-    let mut mono = false;
-    let t = flag_if(s, c, profile != 1, false, &mut mono);
-    let Step::Next(c) = t else {
-        return t;
-    };
+    let mono = flag_if(r, profile != 1, false)?;
     n[place::MONO_CHROME] = mono as u32;
-    color_rest(s, c, profile, twelve, mono, n)
+    color_rest(r, profile, twelve, mono, n)
 }

@@ -1,5 +1,5 @@
 // The sequence header OBU (5.5), read into the record's numbers.
-#![tactic(auto)]
+#![tactic(auto, using(fill::proofs::Filling::fillings))]
 
 mod body; // body.rt: 5.5.1, whole
 mod color; // color.rt: 5.5.2

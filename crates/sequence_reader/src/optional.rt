@@ -1,44 +1,22 @@
 // A field that is coded only under a condition, and else has an inferred value.
-ghost use Rattle.std.specs.Prelude.{◌≡◌, ◌&&◌, min};
-ghost use Rattle.fill.specs.Fills.{Fills, whole, flagged};
+#![tactic(auto, using(reader::proofs::Reading::readings), unfolding(sequence::specs::Optional::f_if, sequence::specs::Optional::flag_if))]
+
+ghost use Rattle.std.specs.Prelude.{min};
+ghost use Rattle.reader.specs.Reading.{Said};
 ghost use Rattle.sequence.specs.Optional.{f_if, flag_if};
 
-use bits::answer::*;
-use fill::*;
-
-pub fn both(a: bool, b: bool) -> bool
-    ensures { result ≡ (a && b) }
-{
-    if a { b } else { false }
-}
+use bits::answer::Refusal;
+use reader::BitReader;
 
 // f(n), if coded, or else the number that is inferred; a width over 32 counts as 32.
-pub fn f_if(s: &[u8], c: Cursor, coded: bool, width: u32, inferred: u32, v: &mut u32) -> Step
-    ensures { Fills whole (f_if coded (min width 32) 0 0 inferred).dec s.now c result v.old v.new }
+pub fn f_if(r: &mut BitReader, coded: bool, width: u32, inferred: u32) -> Result<u32, Refusal>
+    ensures { Said (f_if coded (min width 32) 0 0 inferred).dec r.old r.new result }
 {
-    if coded {
-        return f(s, c, width, v);
-    }
-    *v = inferred;
-    Step::Next(c)
+    if coded { r.f(width) } else { Ok(inferred) }
 }
 
-pub fn mark_if(s: &[u8], c: Cursor, coded: bool, inferred: bool, v: &mut u32) -> Step
-    ensures { Fills flagged (flag_if coded 0 0 inferred).dec s.now c result v.old v.new }
+pub fn flag_if(r: &mut BitReader, coded: bool, inferred: bool) -> Result<bool, Refusal>
+    ensures { Said (flag_if coded 0 0 inferred).dec r.old r.new result }
 {
-    if coded {
-        return mark(s, c, v);
-    }
-    *v = inferred as u32;
-    Step::Next(c)
-}
-
-pub fn flag_if(s: &[u8], c: Cursor, coded: bool, inferred: bool, v: &mut bool) -> Step
-    ensures { Fills whole (flag_if coded 0 0 inferred).dec s.now c result v.old v.new }
-{
-    if coded {
-        return flag(s, c, v);
-    }
-    *v = inferred;
-    Step::Next(c)
+    if coded { r.flag() } else { Ok(inferred) }
 }

@@ -8,144 +8,113 @@ ghost use Rattle.sequence_reader.specs.Tails.{any_point, point_list};
 
 use crate::optional::*;
 use crate::place;
-use bits::answer::*;
-use fill::*;
+use bits::answer::Refusal;
+use reader::BitReader;
+use sequence::group::PointForm;
 
 // A width over 32 counts as 32, here and below; the point's numbers begin at `at`.
+#[tactic(auto, using(crate::proofs::Pointing::pointings), unfolding(sequence::specs::Points::operating_parameters_info))]
 fn operating_parameters_info(
-    s: &[u8],
-    c: Cursor,
+    r: &mut BitReader,
     width: u32,
     at: usize,
     n: &mut [u32; place::NUMBERS],
-) -> Step
+) -> Result<(), Refusal>
     requires { at + 9 ≤ place.numbers }
-    ensures { Fills (row.operating_parameters_info at) (operating_parameters_info (min width 32) 0).dec s.now c result n.old n.new }
+    ensures { Fills (row.operating_parameters_info at) (operating_parameters_info (min width 32) 0).dec r.old r.new result n.old n.new }
 {
-    let t = f(s, c, width, &mut n[at + place::DECODER_BUFFER_DELAY]);
-    let Step::Next(c) = t else {
-        return t;
-    };
-    let t = f(s, c, width, &mut n[at + place::ENCODER_BUFFER_DELAY]);
-    let Step::Next(c) = t else {
-        return t;
-    };
-    mark(s, c, &mut n[at + place::LOW_DELAY_MODE_FLAG])
+    n[at + place::DECODER_BUFFER_DELAY] = r.f(width)?;
+    n[at + place::ENCODER_BUFFER_DELAY] = r.f(width)?;
+    n[at + place::LOW_DELAY_MODE_FLAG] = r.flag()? as u32;
+    Ok(())
 }
 
+#[tactic(auto, using(crate::proofs::Pointing::pointings), unfolding(sequence::specs::Points::point_model))]
 fn point_model(
-    s: &[u8],
-    c: Cursor,
+    r: &mut BitReader,
     has_model: bool,
     width: u32,
     at: usize,
     n: &mut [u32; place::NUMBERS],
-) -> Step
+) -> Result<(), Refusal>
     requires { at + 9 ≤ place.numbers }
-    ensures { Fills (row.point_model at) (point_model has_model (min width 32) 0).dec s.now c result n.old n.new }
+    ensures { Fills (row.point_model at) (point_model has_model (min width 32) 0).dec r.old r.new result n.old n.new }
 {
-    let mut present = false;
-    let t = flag_if(s, c, has_model, false, &mut present);
-    let Step::Next(c) = t else {
-        return t;
-    };
+    let present = flag_if(r, has_model, false)?;
     n[at + place::DECODER_MODEL_PRESENT_FOR_THIS_OP] = present as u32;
     if present {
-        return operating_parameters_info(s, c, width, at, n);
+        return operating_parameters_info(r, width, at, n);
     }
     n[at + place::DECODER_BUFFER_DELAY] = 0;
     n[at + place::ENCODER_BUFFER_DELAY] = 0;
     n[at + place::LOW_DELAY_MODE_FLAG] = 0;
-    Step::Next(c)
+    Ok(())
 }
 
+#[tactic(auto, using(crate::proofs::Pointing::pointings), unfolding(sequence::specs::Points::point_delay))]
 fn point_delay(
-    s: &[u8],
-    c: Cursor,
+    r: &mut BitReader,
     has_delay: bool,
     at: usize,
     n: &mut [u32; place::NUMBERS],
-) -> Step
+) -> Result<(), Refusal>
     requires { at + 9 ≤ place.numbers }
-    ensures { Fills (row.point_delay at) (point_delay has_delay 0).dec s.now c result n.old n.new }
+    ensures { Fills (row.point_delay at) (point_delay has_delay 0).dec r.old r.new result n.old n.new }
 {
     if !has_delay {
         n[at + place::INITIAL_DISPLAY_DELAY_PRESENT_FOR_THIS_OP] = 0;
         n[at + place::INITIAL_DISPLAY_DELAY_MINUS_1] = 0;
-        return Step::Next(c);
+        return Ok(());
     }
-    let mut present = false;
-    let t = flag(s, c, &mut present);
-    let Step::Next(c) = t else {
-        return t;
-    };
+    let present = r.flag()?;
     n[at + place::INITIAL_DISPLAY_DELAY_PRESENT_FOR_THIS_OP] = present as u32;
     if present {
-        return f(s, c, 4, &mut n[at + place::INITIAL_DISPLAY_DELAY_MINUS_1]);
+        n[at + place::INITIAL_DISPLAY_DELAY_MINUS_1] = r.f(4)?;
+        return Ok(());
     }
     n[at + place::INITIAL_DISPLAY_DELAY_MINUS_1] = 0;
-    Step::Next(c)
+    Ok(())
 }
 
+#[tactic(auto, using(crate::proofs::Pointing::pointings), unfolding(sequence::specs::Points::point_rest))]
 fn point_rest(
-    s: &[u8],
-    c: Cursor,
+    r: &mut BitReader,
     level: u32,
-    has_model: bool,
-    width: u32,
-    has_delay: bool,
+    form: PointForm,
     at: usize,
     n: &mut [u32; place::NUMBERS],
-) -> Step
+) -> Result<(), Refusal>
     requires { at + 9 ≤ place.numbers }
-    ensures { Fills (row.point_rest at) (point_rest level has_model (min width 32) has_delay 0).dec s.now c result n.old n.new }
+    ensures { Fills (row.point_rest at) (point_rest level form.has_model (min form.width 32) form.has_delay 0).dec r.old r.new result n.old n.new }
 {
-    let t = f_if(s, c, 7 < level, 1, 0, &mut n[at + place::SEQ_TIER]);
-    let Step::Next(c) = t else {
-        return t;
-    };
-    let t = point_model(s, c, has_model, width, at, n);
-    let Step::Next(c) = t else {
-        return t;
-    };
-    point_delay(s, c, has_delay, at, n)
+    n[at + place::SEQ_TIER] = f_if(r, 7 < level, 1, 0)?;
+    point_model(r, form.has_model, form.width, at, n)?;
+    point_delay(r, form.has_delay, at, n)
 }
 
+#[tactic(auto, using(crate::proofs::Pointing::pointings), unfolding(sequence::specs::Points::operating_point))]
 fn operating_point(
-    s: &[u8],
-    c: Cursor,
-    has_model: bool,
-    width: u32,
-    has_delay: bool,
+    r: &mut BitReader,
+    form: PointForm,
     at: usize,
     n: &mut [u32; place::NUMBERS],
-) -> Step
+) -> Result<(), Refusal>
     requires { at + 9 ≤ place.numbers }
-    ensures { Fills (row.operating_point at) (operating_point has_model (min width 32) has_delay 0).dec s.now c result n.old n.new }
+    ensures { Fills (row.operating_point at) (operating_point form.has_model (min form.width 32) form.has_delay 0).dec r.old r.new result n.old n.new }
 {
-    let t = f(s, c, 12, &mut n[at]);
-    let Step::Next(c) = t else {
-        return t;
-    };
-    let mut level = 0;
-    let t = f(s, c, 5, &mut level);
-    let Step::Next(c) = t else {
-        return t;
-    };
+    n[at] = r.f(12)?;
+    let level = r.f(5)?;
     n[at + place::SEQ_LEVEL_IDX] = level;
-    point_rest(s, c, level, has_model, width, has_delay, at, n)
+    point_rest(r, level, form, at, n)
 }
 
 // With the reduced header only the level is coded.
-fn reduced_point(s: &[u8], c: Cursor, at: usize, n: &mut [u32; place::NUMBERS]) -> Step
+#[tactic(auto, using(crate::proofs::Pointing::pointings), unfolding(sequence::specs::Points::reduced_point))]
+fn reduced_point(r: &mut BitReader, at: usize, n: &mut [u32; place::NUMBERS]) -> Result<(), Refusal>
     requires { at + 9 ≤ place.numbers }
-    ensures { Fills (row.operating_point at) reduced_point.dec s.now c result n.old n.new }
+    ensures { Fills (row.operating_point at) reduced_point.dec r.old r.new result n.old n.new }
 {
-    let mut level = 0;
-    let t = f(s, c, 5, &mut level);
-    let Step::Next(c) = t else {
-        return t;
-    };
+    let level = r.f(5)?;
     n[at] = 0;
     n[at + place::SEQ_LEVEL_IDX] = level;
     n[at + place::SEQ_TIER] = 0;
@@ -155,94 +124,64 @@ fn reduced_point(s: &[u8], c: Cursor, at: usize, n: &mut [u32; place::NUMBERS]) 
     n[at + place::LOW_DELAY_MODE_FLAG] = 0;
     n[at + place::INITIAL_DISPLAY_DELAY_PRESENT_FOR_THIS_OP] = 0;
     n[at + place::INITIAL_DISPLAY_DELAY_MINUS_1] = 0;
-    Step::Next(c)
+    Ok(())
 }
 
+#[tactic(auto, using(crate::proofs::Pointing::pointings))]
 fn any_point(
-    s: &[u8],
-    c: Cursor,
+    r: &mut BitReader,
     reduced: bool,
-    has_model: bool,
-    width: u32,
-    has_delay: bool,
+    form: PointForm,
     at: usize,
     n: &mut [u32; place::NUMBERS],
-) -> Step
+) -> Result<(), Refusal>
     requires { at + 9 ≤ place.numbers }
-    ensures { Fills (row.operating_point at) (any_point reduced has_model (min width 32) has_delay 0).dec s.now c result n.old n.new }
+    ensures { Fills (row.operating_point at) (any_point reduced form.has_model (min form.width 32) form.has_delay 0).dec r.old r.new result n.old n.new }
 {
     if reduced {
-        return reduced_point(s, c, at, n);
+        return reduced_point(r, at, n);
     }
-    operating_point(s, c, has_model, width, has_delay, at, n)
+    operating_point(r, form, at, n)
 }
 
 // The first `count` points.
+#[tactic(auto, using(crate::proofs::Pointing::loops))]
 pub fn operating_points(
-    s: &[u8],
-    c: Cursor,
+    r: &mut BitReader,
     reduced: bool,
-    has_model: bool,
-    width: u32,
-    has_delay: bool,
+    form: PointForm,
     count: usize,
     n: &mut [u32; place::NUMBERS],
-) -> Step
+) -> Result<(), Refusal>
     requires { count ≤ 32 }
-    ensures { Fills (row.operating_points place.operating_points count) (point_list reduced has_model (min width 32) has_delay count).dec s.now c result n.old n.new }
+    ensures { Fills (row.operating_points place.operating_points count) (point_list reduced form.has_model (min form.width 32) form.has_delay count).dec r.old r.new result n.old n.new }
 {
-    let mut p = c;
-    let mut i = 0;
-    while i < count {
-        let t = any_point(
-            s,
-            p,
-            reduced,
-            has_model,
-            width,
-            has_delay,
-            place::OPERATING_POINTS + place::POINT_NUMBERS * i,
-            n,
-        );
-        let Step::Next(q) = t else {
-            return t;
-        };
-        p = q;
-        i += 1;
+    for i in 0..count {
+        let at = place::OPERATING_POINTS + place::POINT_NUMBERS * i;
+        any_point(r, reduced, form, at, n)?;
     }
-    Step::Next(p)
+    Ok(())
 }
 
 // initial_display_delay_present_flag, operating_points_cnt_minus_1, and so many points.
+#[tactic(auto, using(crate::proofs::Pointing::pointings), unfolding(sequence::specs::Points::points))]
 pub fn points(
-    s: &[u8],
-    c: Cursor,
+    r: &mut BitReader,
     has_model: bool,
     width: u32,
     n: &mut [u32; place::NUMBERS],
-) -> Step
-    ensures { Fills ((row.points).from place.points) (points has_model (min width 32)).dec s.now c result n.old n.new }
+) -> Result<(), Refusal>
+    ensures { Fills ((row.points).from place.points) (points has_model (min width 32)).dec r.old r.new result n.old n.new }
 {
-    let mut has_delay = false;
-    let t = flag(s, c, &mut has_delay);
-    let Step::Next(c) = t else {
-        return t;
-    };
+    let has_delay = r.flag()?;
     n[place::INITIAL_DISPLAY_DELAY_PRESENT_FLAG] = has_delay as u32;
-    let mut minus_1 = 0;
-    let t = f(s, c, 5, &mut minus_1);
-    let Step::Next(c) = t else {
-        return t;
-    };
+    let minus_1 = r.f(5)?;
     n[place::OPERATING_POINTS_CNT_MINUS_1] = minus_1;
-    operating_points(
-        s,
-        c,
-        false,
+    let count = minus_1 as usize + 1;
+    let form = PointForm {
         has_model,
         width,
         has_delay,
-        minus_1 as usize + 1,
-        n,
-    )
+    };
+    operating_points(r, false, form, count, n)
 }

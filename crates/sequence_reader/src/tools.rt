@@ -1,145 +1,133 @@
 // The coding tools of 5.5.1, read.
 ghost use Rattle.fill.specs.Fills.{Fills};
+ghost use Rattle.reader.specs.Reading.{Said};
 ghost use Rattle.sequence.specs.Tools.{block_tools, hint_tools, choice, integer_mv, hint_bits, motion_tools, order_tools, full_tools, inter_tools, filter_tools};
 ghost use Rattle.sequence_reader.specs.Layouts as row;
 ghost use Rattle.sequence_reader.specs.Places as place;
-ghost use Rattle.sequence_reader.specs.Tails.{choice_apart};
 
 use crate::optional::*;
 use crate::place;
-use bits::answer::*;
-use fill::*;
+use bits::answer::Refusal;
+use reader::BitReader;
+use sequence::group::Choice;
 
-pub fn block_tools(s: &[u8], c: Cursor, n: &mut [u32; place::NUMBERS]) -> Step
-    ensures { Fills ((row.block_tools).from place.tools) block_tools.dec s.now c result n.old n.new }
+#[tactic(auto, using(fill::proofs::Filling::fillings), unfolding(sequence::specs::Tools::block_tools))]
+pub fn block_tools(r: &mut BitReader, n: &mut [u32; place::NUMBERS]) -> Result<(), Refusal>
+    ensures { Fills ((row.block_tools).from place.tools) block_tools.dec r.old r.new result n.old n.new }
 {
-    let t = mark(s, c, &mut n[place::USE_128X128_SUPERBLOCK]);
-    let Step::Next(c) = t else {
-        return t;
-    };
-    let t = mark(s, c, &mut n[place::ENABLE_FILTER_INTRA]);
-    let Step::Next(c) = t else {
-        return t;
-    };
-    mark(s, c, &mut n[place::ENABLE_INTRA_EDGE_FILTER])
+    n[place::USE_128X128_SUPERBLOCK] = r.flag()? as u32;
+    n[place::ENABLE_FILTER_INTRA] = r.flag()? as u32;
+    n[place::ENABLE_INTRA_EDGE_FILTER] = r.flag()? as u32;
+    Ok(())
 }
 
-fn hint_tools(s: &[u8], c: Cursor, order_hint: bool, n: &mut [u32; place::NUMBERS]) -> Step
-    ensures { Fills ((row.hint_tools).from place.hint_tools) (hint_tools order_hint).dec s.now c result n.old n.new }
+#[tactic(auto, using(crate::proofs::Steps::fields), unfolding(sequence::specs::Tools::hint_tools))]
+fn hint_tools(
+    r: &mut BitReader,
+    order_hint: bool,
+    n: &mut [u32; place::NUMBERS],
+) -> Result<(), Refusal>
+    ensures { Fills ((row.hint_tools).from place.hint_tools) (hint_tools order_hint).dec r.old r.new result n.old n.new }
 {
-    let t = mark_if(s, c, order_hint, false, &mut n[place::ENABLE_JNT_COMP]);
-    let Step::Next(c) = t else {
-        return t;
-    };
-    mark_if(s, c, order_hint, false, &mut n[place::ENABLE_REF_FRAME_MVS])
+    n[place::ENABLE_JNT_COMP] = flag_if(r, order_hint, false)? as u32;
+    n[place::ENABLE_REF_FRAME_MVS] = flag_if(r, order_hint, false)? as u32;
+    Ok(())
 }
 
-fn choice(s: &[u8], c: Cursor, choose: &mut bool, force: &mut u32) -> Step
-    ensures { Fills choice_apart (choice 0).dec s.now c result (choose.old, force.old) (choose.new, force.new) }
+#[tactic(auto, using(crate::proofs::Steps::values), unfolding(sequence::specs::Tools::choice))]
+fn choice(r: &mut BitReader) -> Result<Choice, Refusal>
+    ensures { Said (choice 0).dec r.old r.new result }
 {
-    let t = flag(s, c, choose);
-    let Step::Next(c) = t else {
-        return t;
-    };
-    f_if(s, c, !*choose, 1, 2, force)
+    let seq_choose = r.flag()?;
+    let seq_force = f_if(r, !seq_choose, 1, 2)?;
+    Ok(Choice {
+        seq_choose,
+        seq_force,
+    })
 }
 
-fn integer_mv(s: &[u8], c: Cursor, screen: u32, choose: &mut bool, force: &mut u32) -> Step
-    ensures { Fills choice_apart (integer_mv screen).dec s.now c result (choose.old, force.old) (choose.new, force.new) }
+#[tactic(auto, using(crate::proofs::Steps::values, crate::proofs::Choosing::choice_of), unfolding(sequence::specs::Tools::integer_mv, sequence::specs::Tools::no_choice))]
+fn integer_mv(r: &mut BitReader, screen: u32) -> Result<Choice, Refusal>
+    ensures { Said (integer_mv screen).dec r.old r.new result }
 {
     if 0 < screen {
-        return choice(s, c, choose, force);
+        return choice(r);
     }
-    *choose = false;
-    *force = 2;
-    Step::Next(c)
+    Ok(Choice {
+        seq_choose: false,
+        seq_force: 2,
+    })
 }
 
-fn hint_bits(s: &[u8], c: Cursor, order_hint: bool, n: &mut [u32; place::NUMBERS]) -> Step
-    ensures { Fills ((row.hint_bits).from place.hint_bits) (hint_bits order_hint).dec s.now c result n.old n.new }
+#[tactic(auto, using(crate::proofs::Steps::fields), unfolding(sequence::specs::Tools::hint_bits))]
+fn hint_bits(
+    r: &mut BitReader,
+    order_hint: bool,
+    n: &mut [u32; place::NUMBERS],
+) -> Result<(), Refusal>
+    ensures { Fills ((row.hint_bits).from place.hint_bits) (hint_bits order_hint).dec r.old r.new result n.old n.new }
 {
     if !order_hint {
         n[place::ORDER_HINT_BITS_MINUS_1] = 0;
         n[place::ORDER_HINT_BITS] = 0;
-        return Step::Next(c);
+        return Ok(());
     }
-    let mut minus_1 = 0;
-    let t = f(s, c, 3, &mut minus_1);
-    let Step::Next(c) = t else {
-        return t;
-    };
+    let minus_1 = r.f(3)?;
     n[place::ORDER_HINT_BITS_MINUS_1] = minus_1;
     n[place::ORDER_HINT_BITS] = minus_1 + 1;
-    Step::Next(c)
+    Ok(())
 }
 
 // The tools from seq_choose_screen_content_tools on.
-fn motion_tools(s: &[u8], c: Cursor, order_hint: bool, n: &mut [u32; place::NUMBERS]) -> Step
-    ensures { Fills ((row.motion_tools).from place.motion_tools) (motion_tools order_hint).dec s.now c result n.old n.new }
+#[tactic(auto, using(crate::proofs::Choosing::choices), unfolding(sequence::specs::Tools::motion_tools))]
+fn motion_tools(
+    r: &mut BitReader,
+    order_hint: bool,
+    n: &mut [u32; place::NUMBERS],
+) -> Result<(), Refusal>
+    ensures { Fills ((row.motion_tools).from place.motion_tools) (motion_tools order_hint).dec r.old r.new result n.old n.new }
 {
-    let mut choose = false;
-    let mut force = 0;
-    let t = choice(s, c, &mut choose, &mut force);
-    let Step::Next(c) = t else {
-        return t;
-    };
-    n[place::SEQ_CHOOSE_SCREEN_CONTENT_TOOLS] = choose as u32;
-    n[place::SEQ_FORCE_SCREEN_CONTENT_TOOLS] = force;
-    let mut choose_mv = false;
-    let mut force_mv = 0;
-    let t = integer_mv(s, c, force, &mut choose_mv, &mut force_mv);
-    let Step::Next(c) = t else {
-        return t;
-    };
-    n[place::SEQ_CHOOSE_INTEGER_MV] = choose_mv as u32;
-    n[place::SEQ_FORCE_INTEGER_MV] = force_mv;
-    hint_bits(s, c, order_hint, n)
+    let screen = choice(r)?;
+    n[place::SEQ_CHOOSE_SCREEN_CONTENT_TOOLS] = screen.seq_choose as u32;
+    n[place::SEQ_FORCE_SCREEN_CONTENT_TOOLS] = screen.seq_force;
+    let mv = integer_mv(r, screen.seq_force)?;
+    n[place::SEQ_CHOOSE_INTEGER_MV] = mv.seq_choose as u32;
+    n[place::SEQ_FORCE_INTEGER_MV] = mv.seq_force;
+    hint_bits(r, order_hint, n)
 }
 
 // The tools from enable_dual_filter on.
-fn order_tools(s: &[u8], c: Cursor, n: &mut [u32; place::NUMBERS]) -> Step
-    ensures { Fills ((row.order_tools).from place.order_tools) order_tools.dec s.now c result n.old n.new }
+#[tactic(auto, using(crate::proofs::Steps::fields), unfolding(sequence::specs::Tools::order_tools))]
+fn order_tools(r: &mut BitReader, n: &mut [u32; place::NUMBERS]) -> Result<(), Refusal>
+    ensures { Fills ((row.order_tools).from place.order_tools) order_tools.dec r.old r.new result n.old n.new }
 {
-    let t = mark(s, c, &mut n[place::ENABLE_DUAL_FILTER]);
-    let Step::Next(c) = t else {
-        return t;
-    };
-    let mut order_hint = false;
-    let t = flag(s, c, &mut order_hint);
-    let Step::Next(c) = t else {
-        return t;
-    };
+    n[place::ENABLE_DUAL_FILTER] = r.flag()? as u32;
+    let order_hint = r.flag()?;
     n[place::ENABLE_ORDER_HINT] = order_hint as u32;
-    let t = hint_tools(s, c, order_hint, n);
-    let Step::Next(c) = t else {
-        return t;
-    };
-    motion_tools(s, c, order_hint, n)
+    hint_tools(r, order_hint, n)?;
+    motion_tools(r, order_hint, n)
 }
 
-fn full_tools(s: &[u8], c: Cursor, n: &mut [u32; place::NUMBERS]) -> Step
-    ensures { Fills ((row.inter_tools).from place.inter_tools) full_tools.dec s.now c result n.old n.new }
+#[tactic(auto, using(crate::proofs::Steps::fields), unfolding(sequence::specs::Tools::full_tools))]
+fn full_tools(r: &mut BitReader, n: &mut [u32; place::NUMBERS]) -> Result<(), Refusal>
+    ensures { Fills ((row.inter_tools).from place.inter_tools) full_tools.dec r.old r.new result n.old n.new }
 {
-    let t = mark(s, c, &mut n[place::ENABLE_INTERINTRA_COMPOUND]);
-    let Step::Next(c) = t else {
-        return t;
-    };
-    let t = mark(s, c, &mut n[place::ENABLE_MASKED_COMPOUND]);
-    let Step::Next(c) = t else {
-        return t;
-    };
-    let t = mark(s, c, &mut n[place::ENABLE_WARPED_MOTION]);
-    let Step::Next(c) = t else {
-        return t;
-    };
-    order_tools(s, c, n)
+    n[place::ENABLE_INTERINTRA_COMPOUND] = r.flag()? as u32;
+    n[place::ENABLE_MASKED_COMPOUND] = r.flag()? as u32;
+    n[place::ENABLE_WARPED_MOTION] = r.flag()? as u32;
+    order_tools(r, n)
 }
 
-pub fn inter_tools(s: &[u8], c: Cursor, reduced: bool, n: &mut [u32; place::NUMBERS]) -> Step
-    ensures { Fills ((row.inter_tools).from place.inter_tools) (inter_tools reduced).dec s.now c result n.old n.new }
+#[tactic(auto, using(crate::proofs::Choosing::choices), unfolding(sequence::specs::Tools::inter_tools))]
+pub fn inter_tools(
+    r: &mut BitReader,
+    reduced: bool,
+    n: &mut [u32; place::NUMBERS],
+) -> Result<(), Refusal>
+    ensures { Fills ((row.inter_tools).from place.inter_tools) (inter_tools reduced).dec r.old r.new result n.old n.new }
 {
     if !reduced {
-        return full_tools(s, c, n);
+        return full_tools(r, n);
     }
     n[place::ENABLE_INTERINTRA_COMPOUND] = 0;
     n[place::ENABLE_MASKED_COMPOUND] = 0;
@@ -154,19 +142,15 @@ pub fn inter_tools(s: &[u8], c: Cursor, reduced: bool, n: &mut [u32; place::NUMB
     n[place::SEQ_FORCE_INTEGER_MV] = 2;
     n[place::ORDER_HINT_BITS_MINUS_1] = 0;
     n[place::ORDER_HINT_BITS] = 0;
-    Step::Next(c)
+    Ok(())
 }
 
-pub fn filter_tools(s: &[u8], c: Cursor, n: &mut [u32; place::NUMBERS]) -> Step
-    ensures { Fills ((row.filter_tools).from place.filter_tools) filter_tools.dec s.now c result n.old n.new }
+#[tactic(auto, using(fill::proofs::Filling::fillings), unfolding(sequence::specs::Tools::filter_tools))]
+pub fn filter_tools(r: &mut BitReader, n: &mut [u32; place::NUMBERS]) -> Result<(), Refusal>
+    ensures { Fills ((row.filter_tools).from place.filter_tools) filter_tools.dec r.old r.new result n.old n.new }
 {
-    let t = mark(s, c, &mut n[place::ENABLE_SUPERRES]);
-    let Step::Next(c) = t else {
-        return t;
-    };
-    let t = mark(s, c, &mut n[place::ENABLE_CDEF]);
-    let Step::Next(c) = t else {
-        return t;
-    };
-    mark(s, c, &mut n[place::ENABLE_RESTORATION])
+    n[place::ENABLE_SUPERRES] = r.flag()? as u32;
+    n[place::ENABLE_CDEF] = r.flag()? as u32;
+    n[place::ENABLE_RESTORATION] = r.flag()? as u32;
+    Ok(())
 }

@@ -1,6 +1,7 @@
 // 5.5.1 sequence_header_obu, written, and the OBU that holds it.
 ghost use Rattle.std.specs.Prelude.{◌≡◌, ◌++◌, ◌+◌, ◌<◌, ◌≤◌, length};
-ghost use Rattle.bits.specs.Walk.{Walked, ◌⊕◌};
+ghost use Rattle.bits.specs.Walk.{◌⊕◌};
+ghost use Rattle.writer.specs.Walked.{Walked};
 ghost use Rattle.sequence.specs.Fields.{general_out, color_and_grain_out, tools_and_color_out, body_out, sequence_out};
 ghost use Rattle.sequence.specs.Timing.{decoder_model_info_if};
 ghost use Rattle.sequence.specs.Sequence.{profile, full_general, reduced_general, general, color_and_grain, tools_and_color, body, sequence_header_obu, sequence_header};
@@ -15,24 +16,21 @@ use crate::write_points::*;
 use crate::write_timing::*;
 use crate::write_tools::*;
 use bits::answer::*;
-use bits::element;
+use bits::element::*;
 use obu::answer::verdict;
 use obu::header::ObuHeader;
 use obu::write::*;
 use sequence::record::*;
-use writer::*;
+use writer::BitWriter;
 
 // The longest payload and its trailing bits, in whole words of eight bytes.
 const PAYLOAD_ROOM: usize = (SEQUENCE_HEADER_OBU_MAX_BITS + 64) / 64 * 8;
 
-fn profile(out: &mut [u8], c: Cursor, v: u32) -> Step
-    ensures { Walked (profile.enc v) c out.old result out.new }
+fn profile(w: &mut BitWriter, v: u32) -> Result<(), Refusal>
+    ensures { Walked (profile.enc v) w.old w.new result }
 {
-    let s = f(out, c, 3, v, element::SEQ_PROFILE, 0);
-    let Step::Next(c) = s else {
-        return s;
-    };
-    demand(out, c, v <= 2, element::SEQ_PROFILE, 0)
+    w.f(3, v, SEQ_PROFILE, 0)?;
+    w.demand(v <= 2, SEQ_PROFILE, 0)
 }
 
 // The width of the buffer delays, once the timing is written: where a decoder model is coded, it says it.
@@ -46,176 +44,122 @@ fn delay_width(has_model: bool, d: DecoderModelInfo) -> u32
     1
 }
 
-fn full_general(out: &mut [u8], c: Cursor, h: SequenceHeaderObu) -> Step
-    ensures { Walked (full_general.enc (general_out h)) c out.old result out.new }
+fn full_general(w: &mut BitWriter, h: SequenceHeaderObu) -> Result<(), Refusal>
+    ensures { Walked (full_general.enc (general_out h)) w.old w.new result }
 {
-    let s = timing(out, c, h);
-    let Step::Next(c) = s else {
-        return s;
-    };
+    timing(w, h)?;
     let has_model = h.decoder_model_info_present_flag;
     let width = delay_width(has_model, h.decoder_model_info);
-    points(out, c, has_model, width, h)
+    points(w, has_model, width, h)
 }
 
-fn reduced_general(out: &mut [u8], c: Cursor, h: SequenceHeaderObu) -> Step
-    ensures { Walked (reduced_general.enc (general_out h)) c out.old result out.new }
+fn reduced_general(w: &mut BitWriter, h: SequenceHeaderObu) -> Result<(), Refusal>
+    ensures { Walked (reduced_general.enc (general_out h)) w.old w.new result }
 {
-    let s = reduced_timing(out, c, h);
-    let Step::Next(c) = s else {
-        return s;
-    };
-    reduced_points(out, c, h)
+    reduced_timing(w, h)?;
+    reduced_points(w, h)
 }
 
-fn general(out: &mut [u8], c: Cursor, reduced: bool, h: SequenceHeaderObu) -> Step
-    ensures { Walked ((general reduced).enc (general_out h)) c out.old result out.new }
+fn general(w: &mut BitWriter, reduced: bool, h: SequenceHeaderObu) -> Result<(), Refusal>
+    ensures { Walked ((general reduced).enc (general_out h)) w.old w.new result }
 {
     if reduced {
-        return reduced_general(out, c, h);
+        return reduced_general(w, h);
     }
-    full_general(out, c, h)
+    full_general(w, h)
 }
 
-fn color_and_grain(out: &mut [u8], c: Cursor, profile: u32, h: SequenceHeaderObu) -> Step
-    ensures { Walked ((color_and_grain profile).enc (color_and_grain_out h)) c out.old result out.new }
+fn color_and_grain(w: &mut BitWriter, profile: u32, h: SequenceHeaderObu) -> Result<(), Refusal>
+    ensures { Walked ((color_and_grain profile).enc (color_and_grain_out h)) w.old w.new result }
 {
-    let s = color_config(out, c, profile, h.color_config);
-    let Step::Next(c) = s else {
-        return s;
-    };
-    flag(out, c, h.film_grain_params_present)
+    color_config(w, profile, h.color_config)?;
+    w.flag(h.film_grain_params_present)
 }
 
 fn tools_and_color(
-    out: &mut [u8],
-    c: Cursor,
+    w: &mut BitWriter,
     profile: u32,
     reduced: bool,
     h: SequenceHeaderObu,
-) -> Step
-    ensures { Walked ((tools_and_color profile reduced).enc (tools_and_color_out h)) c out.old result out.new }
+) -> Result<(), Refusal>
+    ensures { Walked ((tools_and_color profile reduced).enc (tools_and_color_out h)) w.old w.new result }
 {
-    let s = block_tools(out, c, h);
-    let Step::Next(c) = s else {
-        return s;
-    };
-    let s = inter_tools(out, c, reduced, h);
-    let Step::Next(c) = s else {
-        return s;
-    };
-    let s = filter_tools(out, c, h);
-    let Step::Next(c) = s else {
-        return s;
-    };
-    color_and_grain(out, c, profile, h)
+    block_tools(w, h)?;
+    inter_tools(w, reduced, h)?;
+    filter_tools(w, h)?;
+    color_and_grain(w, profile, h)
 }
 
-fn body(out: &mut [u8], c: Cursor, profile: u32, reduced: bool, h: SequenceHeaderObu) -> Step
-    ensures { Walked ((body profile reduced).enc (body_out h)) c out.old result out.new }
+fn body(w: &mut BitWriter, profile: u32, reduced: bool, h: SequenceHeaderObu) -> Result<(), Refusal>
+    ensures { Walked ((body profile reduced).enc (body_out h)) w.old w.new result }
 {
-    let s = general(out, c, reduced, h);
-    let Step::Next(c) = s else {
-        return s;
-    };
-    let s = frame_size(out, c, h);
-    let Step::Next(c) = s else {
-        return s;
-    };
-    let s = frame_ids(out, c, reduced, h);
-    let Step::Next(c) = s else {
-        return s;
-    };
-    tools_and_color(out, c, profile, reduced, h)
+    general(w, reduced, h)?;
+    frame_size(w, h)?;
+    frame_ids(w, reduced, h)?;
+    tools_and_color(w, profile, reduced, h)
 }
 
-pub fn sequence_header_obu(out: &mut [u8], c: Cursor, h: SequenceHeaderObu) -> Step
-    ensures { Walked (sequence_header_obu.enc (sequence_out h)) c out.old result out.new }
+pub fn sequence_header_obu(w: &mut BitWriter, h: SequenceHeaderObu) -> Result<(), Refusal>
+    ensures { Walked (sequence_header_obu.enc (sequence_out h)) w.old w.new result }
 {
-    let s = profile(out, c, h.seq_profile);
-    let Step::Next(c) = s else {
-        return s;
-    };
-    let s = flag(out, c, h.still_picture);
-    let Step::Next(c) = s else {
-        return s;
-    };
-    let s = flag(out, c, h.reduced_still_picture_header);
-    let Step::Next(c) = s else {
-        return s;
-    };
-    body(out, c, h.seq_profile, h.reduced_still_picture_header, h)
+    profile(w, h.seq_profile)?;
+    w.flag(h.still_picture)?;
+    w.flag(h.reduced_still_picture_header)?;
+    body(w, h.seq_profile, h.reduced_still_picture_header, h)
 }
 
 // Two byte strings, one behind the other, written at the start of `out`.
-fn write_strings(first: &[u8], second: &[u8], out: &mut [u8]) -> Answer
+fn write_strings(first: &[u8], second: &[u8], out: &mut [u8]) -> Result<u32, Refusal>
     requires { length first.now + length second.now ≤ 65536 }
     ensures { Writes (octets (first.now ++ second.now)) out.old result out.new }
 {
-    let length = first.len();
-    let answer = verdict(
-        Step::Next(Cursor {
-            at: (length + second.len()) * 8,
-        }),
-        out.len(),
-    );
-    let Answer::Done(_) = answer else {
-        return answer;
-    };
+    let length = first.len() + second.len();
+    let count = verdict(Ok(()), length * 8, out.len())?;
     bits::slice::copy(first, out);
-    bits::slice::copy(second, &mut out[length..]);
-    answer
+    bits::slice::copy(second, &mut out[first.len()..]);
+    Ok(count)
 }
 
-// The header, from the start of `out`. (It is copied: lent out of the record, it would keep the compiler from taking the record apart.)
-fn header(out: &mut [u8], h: ObuHeader) -> Step
-    ensures { Walked ((obu_header 1).enc h) (record { at = 0 }) out.old result out.new }
+// The header. (It is copied field by field: lent out of the record, it would keep the compiler from taking the record apart.)
+fn header(w: &mut BitWriter, h: ObuHeader) -> Result<(), Refusal>
+    ensures { Walked ((obu_header 1).enc h) w.old w.new result }
 {
     let copy = ObuHeader {
         obu_type: h.obu_type,
-        extension_flag: h.extension_flag,
-        has_size_field: h.has_size_field,
-        temporal_id: h.temporal_id,
-        spatial_id: h.spatial_id,
+        ..h
     };
-    obu_header(out, Cursor { at: 0 }, copy, 1)
+    obu_header(w, copy, 1)
 }
 
-// The payload and its trailing bits, from the start of `out`.
-fn padded_payload(out: &mut [u8], h: SequenceHeaderObu) -> Step
-    ensures { Walked (sequence_header_obu.enc (sequence_out h) ⊕ trailing_bits (bit_count (sequence_header_obu.enc (sequence_out h)))) (record { at = 0 }) out.old result out.new }
+// The payload and its trailing bits, from the start of a slice.
+fn padded_payload(w: &mut BitWriter, h: SequenceHeaderObu) -> Result<(), Refusal>
+    requires { w.old.at ≡ 0 }
+    ensures { Walked (sequence_header_obu.enc (sequence_out h) ⊕ trailing_bits (bit_count (sequence_header_obu.enc (sequence_out h)))) w.old w.new result }
 {
-    let s = sequence_header_obu(out, Cursor { at: 0 }, h);
-    let Step::Next(c) = s else {
-        return s;
-    };
-    trailing_bits(out, c, c.at)
+    sequence_header_obu(w, h)?;
+    trailing_bits(w, w.at)
 }
 
 // The sequence header OBU, written at the start of `out`. Each part is walked once, into an array that holds the longest.
-pub fn write_sequence_header(record: SequenceHeaderObu, out: &mut [u8]) -> Answer
+pub fn write_sequence_header(record: SequenceHeaderObu, out: &mut [u8]) -> Result<u32, Refusal>
     ensures { Writes (sequence_header.enc «record») out.old result out.new }
 {
-    let mut head = [0u8; 10];
-    let s = header(&mut head, record.obu_header);
-    let Step::Next(c) = s else {
-        return verdict(s, out.len());
+    if 65536 < out.len() {
+        return Err(Refusal::Long);
+    }
+    let mut head = BitWriter {
+        out: &mut [0; 10],
+        at: 0,
     };
-    let mut payload = [0u8; PAYLOAD_ROOM];
-    let s = padded_payload(&mut payload, record);
-    let Step::Next(end) = s else {
-        return verdict(s, out.len());
+    header(&mut head, record.obu_header)?;
+    let mut payload = BitWriter {
+        out: &mut [0; PAYLOAD_ROOM],
+        at: 0,
     };
-    let payload_length = end.at / 8;
-    let s = obu_size(
-        &mut head,
-        c,
-        record.obu_header.has_size_field,
-        capped(payload_length),
-    );
-    let Step::Next(c) = s else {
-        return verdict(s, out.len());
-    };
-    let head_length = c.at / 8;
-    write_strings(&head[..head_length], &payload[..payload_length], out)
+    padded_payload(&mut payload, record)?;
+    let second = payload.at / 8;
+    let sized = record.obu_header.has_size_field;
+    obu_size(&mut head, sized, capped(second))?;
+    let first = head.at / 8;
+    write_strings(&head.out[..first], &payload.out[..second], out)
 }

@@ -26,10 +26,8 @@ fn dump_row(rt: &impl Print, place: u64, row: &[u8]) -> io::Result<()> {
 }
 
 fn dump(rt: &impl Print, s: &[u8]) -> io::Result<()> {
-    let mut place = 0u64;
-    for row in s.chunks(16) {
-        dump_row(rt, place, row)?;
-        place = place.saturating_add(128);
+    for (i, row) in s.chunks(16).enumerate() {
+        dump_row(rt, (i as u64).saturating_mul(128), row)?;
     }
     rt.write_all(b"\n")
 }

@@ -8,15 +8,14 @@ use lib.ListN.{length, get_or, replicate}
 use Rattle.bits.specs.Elements.{frame_width_bits_minus_1, frame_height_bits_minus_1, twelve_bit}
 use Rattle.bits.specs.declared.answer.Refusal.{Refusal}
 use Rattle.bits.specs.declared.answer.Refusal.TheVariants.{Inconsistent, Unfit}
-use Rattle.bits.specs.declared.answer.Answer.{Answer}
-use Rattle.bits.specs.declared.answer.Answer.TheVariants.{Refused}
+use Rattle.bits.specs.Written.{Answer}
+use Rattle.std.specs.Prelude.{Result, Ok, Err}
+use Rattle.bits.specs.Codec.{Nil, nil}
 use Rattle.obu.specs.Writer.{Writes}
 use Rattle.obu.specs.Demand3.{Consistent}
 use Rattle.sequence.specs.declared.record.SequenceHeaderObu.{SequenceHeaderObu}
 use Rattle.sequence.specs.Points.{no_point}
 use Rattle.sequence.specs.Sequence.{sequence_header}
-use Rattle.sequence_reader.specs.declared.read.Outcome.{Outcome}
-use Rattle.sequence_reader.specs.declared.read.Outcome.TheVariants.{Done}
 use Rattle.sequence_reader.specs.Layouts.{numbers_of, record_of}
 use Rattle.sequence_reader.specs.Reader as R
 use Rattle.sequence_reader.specs.Reader.{Answers}
@@ -47,11 +46,11 @@ all_same z (suc n) (suc i) = all_same z n i
 
 -- the writer refuses the record, and no byte changes
 abbrev pub Refuses : SequenceHeaderObu → Refusal → Type 0
-Refuses v why = (buffer : List ℕ) → length buffer ≤ 65536 → (w : Answer) (ys : List ℕ) → Writes (sequence_header.enc v) buffer w ys → (w ≡ Refused why) × (ys ≡ buffer)
+Refuses v why = (buffer : List ℕ) → length buffer ≤ 65536 → (w : Answer) (ys : List ℕ) → Writes (sequence_header.enc v) buffer w ys → (w ≡ Err why) × (ys ≡ buffer)
 
 -- the reader reads the bytes as the record, whose numbers it leaves
 abbrev pub Reads : List ℕ → SequenceHeaderObu → Type 0
-Reads es v = (ns : List ℕ) (o : Outcome) (ms : List ℕ) → Answers es ns o ms → R.answer o ms ≡ R.answer Done (numbers_of v)
+Reads es v = (ns : List ℕ) (o : Result Nil Refusal) (ms : List ℕ) → Answers es ns o ms → R.answer o ms ≡ R.answer (Ok nil) (numbers_of v)
 
 module _ (width height depth : ℕ) where
   -- The record's numbers are those of no other record.
@@ -71,7 +70,7 @@ module _ (width height depth : ℕ) where
   pub video_is_written : Size width → Size height → Depth depth → (es : List ℕ) × WrittenAs (video width height depth) es × Reads es (video width height depth)
   video_is_written w h d =
       let g = consistent_is_written (video width height depth) (video_is_consistent w h d) in
-      (g.0, g.1, λ ns o ms a. g.1.read_back ns a ∙ ap (λ (v : SequenceHeaderObu). R.answer Done (numbers_of v)) (ends.all_coded width height depth d))
+      (g.0, g.1, λ ns o ms a. g.1.read_back ns a ∙ ap (λ (v : SequenceHeaderObu). R.answer (Ok nil) (numbers_of v)) (ends.all_coded width height depth d))
 
   -- Any other width is refused by its bit count, as (2, 21, 0) with a width of 5; else any other height, as (2, 22, 0) with 5; else any other depth, as (1, 37, 0).
   pub width_is_refused : NoSize width → Refuses (video width height depth) (Unfit frame_width_bits_minus_1 0 5)

@@ -93,7 +93,7 @@ const NAMES: [&[u8]; 81] = [
     b"lr_uv_shift",
 ];
 
-// The word with a number; empty, where there is none.
+// The word with a number; empty, where there is none. (A function of its own: indexed in place, the constant's words are a goal that the prover does not compute.)
 #[tactic(auto, unfolding(crate::specs::Listed::word))]
 fn nth_word(words: &[&'static [u8]], n: usize) -> &'static [u8]
     ensures { result.now ≡ word n (map (λ w. w.now) words.now) }

@@ -9,7 +9,7 @@ pub struct Text<'a> {
     ghost in_slice: { at ≤ length out.now },
 }
 
-// Each method puts its bytes behind the text so far, and drops what the slice has no room for.
+// Each method puts its bytes behind the text so far, and drops what the slice has no room for. (No `fmt::Write`: after an `Err` its contract says nothing.)
 impl<'a> Text<'a> {
     ghost use Rattle.std.specs.Prelude.{◌≡◌, [], ◌∷◌, take};
     ghost use Rattle.words.specs.Text as text;

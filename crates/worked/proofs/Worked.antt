@@ -10,14 +10,14 @@ use lib.IntN.{pos, negsuc}
 use borrow.Author.Rules.{rules}
 use Rattle.bits.specs.Bits.{to_bits, bit_at, bits_of, from_bits, Bits}
 use Rattle.bits.specs.Walk.{Walk, wrote, refuses, join, run}
-use Rattle.bits.specs.Codec.{◌▷◌, choose, select, via, allowed, within, checked, f, flag, zeros, absent, inferred, inferred_flag, array, merged, take_bits}
+use Rattle.bits.specs.Codec.{◌▷◌, choose, select, via, allowed, within, checked, f, flag, zeros, absent, inferred, inferred_flag, array, merged, take_bits, Nil, nil}
 use Rattle.bits.specs.Widths.{width_up_to, bit_length, signed_length}
 use Rattle.bits.specs.Codes.{leb128, leb_step, unary, uvlc, su}
 use Rattle.bits.specs.Answers.{numbered}
 use Rattle.bits.specs.declared.answer.Refusal.TheVariants.{Inconsistent, Short, Ends, Size, Trailing, Unfit}
 use Rattle.bits.specs.declared.answer.Numbered.{Numbered}
 use Rattle.bits.specs.declared.answer.Refusal.{Refusal}
-use Rattle.bits.specs.declared.answer.Answer.TheVariants.{Done}
+use Rattle.std.specs.Prelude.{Result, Ok, Err}
 use Rattle.obu.specs.Writer.{written}
 use Rattle.obu.specs.Delimiter.{temporal_delimiter}
 use Rattle.obu.specs.Demand3.{AreBytes, read}
@@ -35,8 +35,6 @@ use Rattle.sequence.specs.Frame.{max_frame_size, frame_size_fields, frame_size, 
 use Rattle.sequence.specs.Tools.{block_tools, hint_tools, choice, no_choice, integer_mv, hint_bits, motion_tools, order_tools, full_tools, reduced_motion_tools, reduced_order_tools, reduced_tools, inter_tools, filter_tools}
 use Rattle.sequence.specs.Color.{color_values, color_description, sampling, fixed_sampling, mono_planes, srgb_planes, other_planes, planes, color_rest, color_config}
 use Rattle.sequence.specs.Sequence.{profile, full_general, reduced_general, general, color_and_grain, tools_and_color, body, sequence_header_obu, sequence_header}
-use Rattle.sequence_reader.specs.declared.read.Outcome.{Outcome}
-use Rattle.sequence_reader.specs.declared.read.Outcome.TheVariants.{Done as Accepted, Refused}
 use Rattle.sequence_reader.specs.Layouts.{numbers_of}
 use Rattle.sequence_reader.specs.Reader.{answer, answer_for, Answers}
 use Rattle.parts.specs.Codes.{inferred_signed, zip}
@@ -57,7 +55,7 @@ numbers n first second = record { number = n; first = first; second = second; th
 -- The public writer of the walk w writes the bytes es: into every buffer that has room for them, with every byte behind them kept.
 pub record Gives (w : Walk) (es : List ℕ) : Type 0 where
   pub into : (buffer : List ℕ) → AreBytes buffer → length es ≤ length buffer → length buffer ≤ 65536
-      → written w buffer ≡ record { answer = Done (length es); bytes = es ++ drop (length es) buffer }
+      → written w buffer ≡ record { answer = Ok (length es); bytes = es ++ drop (length es) buffer }
 
 -- It refuses, and keeps every byte of the buffer.
 abbrev Keeps : Walk → List ℕ → Refusal → Numbered → Type 0
@@ -65,11 +63,11 @@ Keeps w buffer z n = (written w buffer ≡ untouched z buffer) × (numbered z �
 
 -- The public reader reads the bytes es as the record h, whose numbers it leaves ..
 abbrev Reads : List ℕ → SequenceHeaderObu → Type 0
-Reads es h = (ns : List ℕ) (o : Outcome) (ms : List ℕ) → Answers es ns o ms → answer o ms ≡ answer Accepted (numbers_of h)
+Reads es h = (ns : List ℕ) (o : Result Nil Refusal) (ms : List ℕ) → Answers es ns o ms → answer o ms ≡ answer (Ok nil) (numbers_of h)
 
 -- .. or refuses them, and keeps the numbers that it is lent.
 abbrev Refuses : List ℕ → Refusal → Numbered → Type 0
-Refuses es z n = (ns : List ℕ) (o : Outcome) (ms : List ℕ) → Answers es ns o ms → (answer o ms ≡ answer (Refused z) ns) × (numbered z ≡ n)
+Refuses es z n = (ns : List ℕ) (o : Result Nil Refusal) (ms : List ℕ) → Answers es ns o ms → (answer o ms ≡ answer (Err z) ns) × (numbered z ≡ n)
 
 -- The walk w has these bits.
 abbrev Has : Walk → List ℕ → Type 0

@@ -1,84 +1,47 @@
 -- A field stored in eight bytes at once: the same as bit by bit.
 use mathlib.Core.Path.{◌≡◌, refl, sym, ap, ◌∙◌}
-use mathlib.Core.List.{List, ◌++◌, append_assoc}
-use Prim.Native.Nat.{ℕ, ◌+◌, ◌-◌, ◌*◌, ◌/◌, ◌%◌, ◌^◌, ◌≤◌, ◌<◌}
+use mathlib.Core.List.{List, [], ◌∷◌, ◌++◌, append_assoc}
+use Prim.Native.Nat.{ℕ, suc, ◌+◌, ◌-◌, ◌*◌, ◌/◌, ◌%◌, ◌^◌, ◌≤◌, ◌<◌}
 use native.Mathlib.Omega.{arith}
 use native.Mathlib.Nat.{mod-lt}
-use lib.Pow.{pow_pos, pow_mono}
-use lib.ListN.{length, get_or, set, take, drop}
-use lib.Seq.{take_at, drop_at}
-use Rattle.bits.specs.Bits.{Bits, to_bits, put, from, end}
+use lib.Pow.{pow_pos}
+use lib.ListN.{length, get_or, set, take, drop, length-set}
+use lib.Seq.{take_at, drop_at, drop-drop, sets, sets-eq}
+use borrow.Rule.Slice.PartMut.{put_mid}
+use Rattle.std.specs.Int.{w64, to_be_bytes}
+use Rattle.bits.specs.Bits.{Bits, to_bits, bits_of, put, from, end}
 use Rattle.writer.specs.Blend.{blend}
 use Rattle.bits.proofs.Numbers.{length-to_bits}
 use Rattle.bits.proofs.Storing.{put_append}
 use Rattle.bits.proofs.Places.{end_is, from-drop, put_same, put-behind}
-use Rattle.bits.proofs.Words.{Window, window_end, bits-join}
+use Rattle.writer.proofs.Bytes.{high_bytes, bits-of_bytes}
 use Rattle.writer.proofs.Blending.{own, made_bits, blend-bits}
-use Rattle.writer.proofs.Chunk.{Stores, stores_all, stores_on, stores_end}
+use Rattle.writer.proofs.Chunk.{put_byte, set_bytes}
 
 -- where there is room for a window
 pub window_room : (xs : List ℕ) (at : ℕ) → at / 8 + 8 ≤ length xs → at < 9223372036854775744 → at / 8 * 8 + 64 ≤ end xs
 window_room xs at h l = omega (arith, end_is xs)
 
-pub window_half : (xs : List ℕ) (i : ℕ) → i * 8 + 64 ≤ end xs → i + 4 < 2 ^ 64
-window_half xs i h = omega (arith, end_is xs)
+-- whole bytes stored
+pub put_bytes : (es xs : List ℕ) (i : ℕ) → i * 8 + length es * 8 ≤ end xs → ((k : ℕ) → get_or es k 0 < 256) → ((k : ℕ) → get_or xs k 0 < 256)
+    → put xs (i * 8) (bits_of es) ≡ sets xs i es
+unfolding put bits_of
+put_bytes [] xs i h E X = refl
+put_bytes (e ∷ es) xs i h E X =
+    let a : i * 8 + length (to_bits 8 e) ≡ suc i * 8 = rw (length-to_bits 8 e) (omega arith) in
+    put_append xs (i * 8) (to_bits 8 e) (bits_of es)
+    ∙ rw (a, put_byte xs i e (omega arith) X (E 0))
+    (put_bytes es (set xs i e) (suc i) (omega (arith, end_is xs, end_is (set xs i e), length-set xs i e)) (λ k. E (suc k)) (set_bytes xs i e X (E 0)))
 
--- a word of four bytes holds what was read of it
-pub word_low : {xs : List ℕ} {i v k j : ℕ} → Window 4 xs i v k j → k < 4 → v < 16777216
-word_low {k = k} g h = let p : 2 ^ (k * 8) ≤ 2 ^ 24 = pow_mono {j = 24} (omega arith) in omega (arith, g.small)
-
-pub word_end : {xs : List ℕ} {i v k j : ℕ} → Window 4 xs i v k j → 4 ≤ k → from xs (i * 8) ≡ to_bits 32 v ++ from xs (i * 8 + 32)
-word_end g h = window_end g h
-
--- two words
-pub window_two : (xs : List ℕ) (i h l : ℕ) → from xs (i * 8) ≡ to_bits 32 h ++ from xs (i * 8 + 32) → from xs ((i + 4) * 8) ≡ to_bits 32 l ++ from xs ((i + 4) * 8 + 32)
-    → l < 2 ^ 32 → from xs (i * 8) ≡ to_bits 64 (h * 4294967296 + l) ++ from xs (i * 8 + 64)
-window_two xs i h l a b s =
-    let n : (i + 4) * 8 ≡ i * 8 + 32 = omega arith in
-    let m : i * 8 + 32 + 32 ≡ i * 8 + 64 = omega arith in
-    let c : from xs (i * 8 + 32) ≡ to_bits 32 l ++ from xs (i * 8 + 64) = rw (n, m) at b in
-    a ∙ ap (λ (y : Bits). to_bits 32 h ++ y) c ∙ sym (append_assoc (to_bits 32 h) (to_bits 32 l) _) ∙ ap (λ (y : Bits). y ++ from xs (i * 8 + 64)) (sym (bits-join 32 32 h l s))
-
--- Of the 64 bits of w that go to the eight bytes from i on, `left` bits are to go, from the byte j on, over the bytes ys.
-pub record Spreads (xs : List ℕ) (i w : ℕ) (ys : List ℕ) (j left : ℕ) : Type 0 where
-  pub stores : Stores xs (i * 8) 64 w ys (j * 8) left
-  pub whole : j * 8 + left ≡ i * 8 + 64
-  pub room : i * 8 + 64 ≤ end xs
-
-pub spreads_all : {xs : List ℕ} {i w : ℕ} → i * 8 + 64 ≤ end xs → Spreads xs i w xs i 64
-spreads_all h = record { stores = stores_all (omega arith); whole = refl; room = h }
-
-module _ {xs ys : List ℕ} {i w j left : ℕ} (g : Spreads xs i w ys j left) where
-  pub spreads_size : length ys ≡ length xs
-  spreads_size = g.stores.size
-
-  pub spreads_end : left ≤ 0 → ys ≡ put xs (i * 8) (to_bits 64 w)
-  spreads_end h = stores_end g.stores h
-
-  module _ (h : 0 < left) where
-    pub spreads_some : 8 ≤ left
-    spreads_some = omega (arith, g.whole)
-
-    pub spreads_shift : left - 8 < 64
-    spreads_shift = omega (arith, g.stores.most)
-
-    pub spreads_in : j < length ys
-    spreads_in = omega (arith, g.whole, g.room, end_is xs, g.stores.size)
-
-    pub spreads_next : j + 1 < 2 ^ 64
-    spreads_next = omega (arith, g.whole, g.room, end_is xs)
-
-    pub spreads_on : {x : ℕ} → x ≡ blend (get_or ys j 0) 8 0 (w / 2 ^ (left - 8)) → Spreads xs i w (set ys j x) (j + 1) (left - 8)
-    spreads_on {x} e =
-        let a : j * 8 / 8 ≡ j = omega arith in
-        let d : 8 - j * 8 % 8 - 8 ≡ 0 = omega arith in
-        let n : j * 8 + 8 ≡ (j + 1) * 8 = omega arith in
-        let z : set ys j x ≡ set ys (j * 8 / 8) (blend (get_or ys (j * 8 / 8) 0) 8 (8 - j * 8 % 8 - 8) (w / 2 ^ (left - 8))) = rw (a, d, e) in
-        record {
-          stores = rw n at (stores_on g.stores 8 (w / 2 ^ (left - 8)) (omega (arith, g.whole, g.room, end_is xs)) (omega (arith, g.whole)) (omega arith) refl z);
-          whole = omega (arith, g.whole);
-          room = g.room;
-        }
+-- the eight bytes from i on made a number's
+pub put-word : (xs : List ℕ) (i x : ℕ) {es : List ℕ} → i * 8 + 64 ≤ end xs → ((k : ℕ) → get_or xs k 0 < 256) → es ≡ to_be_bytes w64 x
+    → put_mid i (i + 8 - i) xs es ≡ put xs (i * 8) (to_bits 64 x)
+put-word xs i x {es} h X e =
+    let l : length es ≡ 8 = ap length e in
+    let n : i + 8 - i ≡ 8 = omega arith in
+    let E : (k : ℕ) → get_or es k 0 < 256 = rw e (high_bytes 8 x) in
+    let s : sets xs i es ≡ put xs (i * 8) (to_bits 64 x) = sym (put_bytes es xs i (omega (arith, end_is xs)) E X) ∙ ap (put xs (i * 8)) (ap bits_of e ∙ bits-of_bytes 8 x) in
+    rw (n, drop-drop 8 i xs) (sym (rw l at (sets-eq es xs i (omega (arith, end_is xs))) ∙ append_assoc (take i xs) es (drop (i + 8) xs))) ∙ s
 
 -- Where a run of bits stands already, to store it changes nothing.
 stands : (xs : List ℕ) (at n : ℕ) (bs rest : Bits) → length bs ≡ n → from xs at ≡ bs ++ rest → put xs at bs ≡ xs

@@ -2,8 +2,7 @@ use mathlib.Core.Path.{◌≡◌}
 use mathlib.Core.List.{List, [], ◌∷◌}
 use mathlib.Core.Bool.{Bool, true, false}
 use Prim.Native.Nat.{ℕ}
-use borrow.Author.Rules.{rules}
-use Rattle.bits.specs.declared.answer.Answer.{Answer}
+use Rattle.bits.specs.Written.{Answer}
 use Rattle.obu.specs.Writer.{Writes}
 use Rattle.obu.specs.Delimiter.{delimiter_bytes, octets}
 use Rattle.obu.proofs.delimiter.write_plain.Goals as goal

@@ -2,8 +2,8 @@ use native.Mathlib.Omega.{arith}
 use Rattle.obu.proofs.Strings.{are_bytes, string_room, string_ended, string_filled}
 use Rattle.obu.proofs.delimiter.write_string.Goals as goal
 
-pub returns-in_default : goal.returns-in_default
-returns-in_default c = search (string_ended, are_bytes c.args.string.now (λ i. omega (arith, c.type_inv.string i)))
+pub returns-in_err-count : goal.returns-in_err-count
+returns-in_err-count c = search (string_ended, are_bytes c.args.string.now (λ i. omega (arith, c.type_inv.string i)))
 
 pub copy-requires : goal.copy-requires
 copy-requires c = search string_room

@@ -1,6 +1,0 @@
-use borrow.Author.Rules.{rules}
-use Rattle.contexts.proofs.of_record.quantization_context.Statement.{statement}
-use Rattle.contexts.proofs.of_record.quantization_context.Tie as tie
-
-pub quantization_context_spec : {M : Type 1} → statement M
-quantization_context_spec = tie.close (tie.spec (λ c κs. search rules) (λ c. rw c.plane_count.ensures))

@@ -1,0 +1,14 @@
+use Rattle.parts_reader.proofs.Telling.{no_begin, no_part, all_part, place_fits}
+use Rattle.loop_filter_reader.proofs.read.fill_loop_filter_params.Goals as goal
+
+pub returns-in_err-r : goal.returns-in_err-r
+returns-in_err-r c = no_begin _ c.in_err-r.ensures c.from_residual.ensures.1
+
+pub returns-in_err-loop_filter_params : goal.returns-in_err-loop_filter_params
+returns-in_err-loop_filter_params c = no_part _ c.in_ok-r.ensures c.in_err-loop_filter_params.ensures c.from_residual-in_err-loop_filter_params.ensures.1
+
+pub overflow_cast-result : goal.overflow_cast-result
+overflow_cast-result c = place_fits c.in_ok-r.ensures c.in_ok-loop_filter_params.ensures
+
+pub returns : goal.returns
+returns c = all_part _ c.in_ok-r.ensures c.in_ok-loop_filter_params.ensures

@@ -1,0 +1,5 @@
+use Rattle.fill.proofs.Looping.{rest_on}
+use Rattle.segmentation_reader.proofs.read.features.Goals as goal
+
+pub loop-i-preserved : goal.loop-i-preserved
+loop-i-preserved c = rest_on c.loop-i.invariant c.loop-i-test.true c.in_ok-feature.ensures

@@ -1,0 +1,7 @@
+use Rattle.sequence.specs.Tools.{block_tools}
+use Rattle.sequence_reader.proofs.Steps.{fill_steps}
+use Rattle.sequence_reader.proofs.tools.block_tools.Goals as goal
+
+pub returns : goal.returns
+unfolding block_tools
+returns c = search fill_steps depth 14 fits 4000

@@ -1,0 +1,16 @@
+use Rattle.bits.specs.Codec.{◌▷◌, via, flag, inferred_flag}
+use Rattle.sequence.specs.Color.{srgb_planes}
+use Rattle.writer.proofs.Walking.{walk}
+use Rattle.sequence_writer.proofs.write_color.srgb_planes.Goals as goal
+
+pub returns-in_err-inferred_flag : goal.returns-in_err-inferred_flag
+unfolding srgb_planes ◌▷◌ via flag inferred_flag
+returns-in_err-inferred_flag c = search walk depth 14
+
+pub returns-in_err-fixed_sampling : goal.returns-in_err-fixed_sampling
+unfolding srgb_planes ◌▷◌ via flag inferred_flag
+returns-in_err-fixed_sampling c = search walk depth 14
+
+pub returns : goal.returns
+unfolding srgb_planes ◌▷◌ via flag inferred_flag
+returns c = search walk depth 14

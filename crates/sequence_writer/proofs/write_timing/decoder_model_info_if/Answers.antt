@@ -1,0 +1,12 @@
+use Rattle.bits.specs.Codec.{choose, absent}
+use Rattle.sequence.specs.Timing.{decoder_model_info_if}
+use Rattle.writer.proofs.Walking.{walk}
+use Rattle.sequence_writer.proofs.write_timing.decoder_model_info_if.Goals as goal
+
+pub returns-then-present : goal.returns-then-present
+unfolding decoder_model_info_if choose absent
+returns-then-present c = search walk depth 14
+
+pub returns : goal.returns
+unfolding decoder_model_info_if choose absent
+returns c = search walk depth 14
