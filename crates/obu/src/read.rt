@@ -1,7 +1,7 @@
 // 5.3 read: the header, the size, and the trailing bits.
 #![tactic(auto, using(crate::proofs::HeaderReading::header_readings))]
 
-ghost use Rattle.std.specs.Prelude.{◌≡◌, min, ◌-◌, ◌*◌, ◌/◌, ◌<◌, length, eqb, ◌&&◌};
+ghost use Rattle.std.specs.Prelude.{◌≡◌, min, ◌-◌, ◌*◌, ◌/◌, ◌<◌, length, eqb, ◌&&◌, OnErr};
 ghost use Rattle.bits.specs.Bits.{limit, from, to_bits};
 ghost use Rattle.bits.specs.Codec.{zeros};
 ghost use Rattle.reader.specs.Reading.{Said, Completes};
@@ -77,16 +77,30 @@ fn header_end(r: &mut BitReader, obu_type: u32, extension_flag: bool) -> Result<
     })
 }
 
-// 5.3.2, of an OBU that is to have the type t.
 #[tactic(auto, using(reader::proofs::Reading::readings), unfolding(crate::specs::Header::obu_header, crate::specs::Header::header_table))]
 #[inline(always)]
-pub fn obu_header(r: &mut BitReader, t: u32) -> Result<ObuHeader, Refusal>
+fn header_ahead(r: &mut BitReader, t: u32) -> Result<ObuHeader, Refusal>
     ensures { Said (obu_header t).dec r.old r.new result }
 {
     zeros(r, 1)?;
     let obu_type = expected_type(r, t)?;
     let extension_flag = r.flag()?;
     header_end(r, obu_type, extension_flag)
+}
+
+// 5.3.2, of an OBU that is to have the type t. Where it is refused, the reader stands where it stood.
+#[tactic(auto, using(reader::proofs::Reading::turned_back))]
+#[inline(always)]
+pub fn obu_header(r: &mut BitReader, t: u32) -> Result<ObuHeader, Refusal>
+    ensures said { Said (obu_header t).dec r.old r.new result }
+    ensures kept { OnErr result (r.new.at ≡ r.old.at) }
+{
+    let at = r.at;
+    let header = header_ahead(r, t);
+    if header.is_err() {
+        r.at = at;
+    }
+    header
 }
 
 // How many bytes have places.
@@ -105,10 +119,9 @@ fn follow(r: &BitReader, size: u64) -> bool
     left % 8 == 0 && size == (left / 8) as u64
 }
 
-// The size, if flagged: the number of the bytes that follow.
 #[tactic(auto, using(crate::proofs::TailReading::sizes))]
 #[inline(always)]
-pub fn obu_size(r: &mut BitReader, has_size_field: bool) -> Result<(), Refusal>
+fn size_ahead(r: &mut BitReader, has_size_field: bool) -> Result<(), Refusal>
     ensures { Said (read_size has_size_field) r.old r.new result }
 {
     if has_size_field {
@@ -119,6 +132,22 @@ pub fn obu_size(r: &mut BitReader, has_size_field: bool) -> Result<(), Refusal>
     }
     Ok(())
 }
+
+// The size, if flagged: the number of the bytes that follow. Where it is refused, the reader stands where it stood.
+#[tactic(auto, using(reader::proofs::Reading::turned_back))]
+#[inline(always)]
+pub fn obu_size(r: &mut BitReader, has_size_field: bool) -> Result<(), Refusal>
+    ensures said { Said (read_size has_size_field) r.old r.new result }
+    ensures kept { OnErr result (r.new.at ≡ r.old.at) }
+{
+    let at = r.at;
+    let size = size_ahead(r, has_size_field);
+    if size.is_err() {
+        r.at = at;
+    }
+    size
+}
+
 // Whether the bits of x from k on are a one and zeros.
 #[tactic(auto, using(crate::proofs::TailReading::ones))]
 fn last_one(x: u8, k: u32) -> bool
@@ -149,10 +178,11 @@ fn zero_bytes(s: &[u8], i: usize) -> bool
     clear
 }
 
-// 5.3.4: a one, and zeros up to the end.
+// 5.3.4: a one, and zeros up to the end. Where they are refused, the reader stands where it stood.
 #[tactic(auto, using(crate::proofs::TailReading::tails))]
 pub fn trailing_bits(r: &mut BitReader) -> Result<(), Refusal>
-    ensures { Said read_trailing r.old r.new result }
+    ensures said { Said read_trailing r.old r.new result }
+    ensures kept { OnErr result (r.new.at ≡ r.old.at) }
 {
     let last = reach(r.bytes);
     let i = r.at / 8;

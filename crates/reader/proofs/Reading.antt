@@ -6,7 +6,7 @@ use Prim.Native.Nat.{ℕ, max, min, ◌^◌, ◌<◌, ◌≤◌}
 use native.Mathlib.Omega.{arith}
 use lib.Dec.{ltb, eqb}
 use borrow.Author.Tests.{lt-ltb, le-ltb, eq-eqb, ne_eqb, not-true, not-false}
-use Rattle.std.specs.Prelude.{Result, Ok, Err, IsErrAnd}
+use Rattle.std.specs.Prelude.{Result, Ok, Err, IsErrAnd, is_err}
 use Rattle.std.specs.Result.{result_from_control_flow}
 use Rattle.std.specs.declared.ops.ControlFlow.TheVariants.{Continue, Break}
 use Rattle.std.proofs.lemmas.Result.{err_from_is_err_and}
@@ -42,6 +42,16 @@ module _ {A B : Type 0} {d : Bits → Got A} {p q : BitReader} where
   pub stops : {y : Refusal} (t : Bits → Got B) → Said d p q (Err y) → ((bs : Bits) → d bs ≡ stop y → t bs ≡ stop y) → Said t p q (Err y)
   unfolding found Moved
   stops t (said e s) h = said e (record { finds = h (from p.bytes.now p.at) s.finds; moves = nil })
+
+-- a refusal of which the reader goes back, to where it stood or to any place
+module _ {A : Type 0} {d : Bits → Got A} {p q n : BitReader} where
+  pub turned_back : {r : Result A Refusal} → Said d p q r → is_err r ≡ true → n.bytes ≡ q.bytes → Said d p n r
+  unfolding found Moved
+  turned_back {r = Err y} (said e s) h b = said (b ∙ e) (record { finds = s.finds; moves = nil })
+  turned_back {r = Ok a} s h b = absurd (never h)
+    where
+      never : false ≡ true → ⊥
+      never h = let z : ◌≡◌ {A = ℕ} 0 1 = cc in omega arith
 
 -- the whole of a table
 pub start : {A : Type 0} (t : Codec A) {p n : BitReader} {r : Result A Refusal} → Completes (λ (a : A). a) t p n r → Said t.dec p n r

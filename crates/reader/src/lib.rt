@@ -1,9 +1,9 @@
-// The bit reader: the codes of 4.10 read. Each answers a value, and the reader goes on behind it; or the refusal.
+// The bit reader: the codes of 4.10 read. Each answers a value, and the reader goes on behind it; or the refusal, and it stands where it stood.
 #![tactic(auto)]
 
 mod number; // number.rt: the values of codes
 
-ghost use Rattle.std.specs.Prelude.{◌≡◌, ◌++◌, min, ◌+◌, ◌-◌, ◌*◌, ◌/◌, ◌%◌, ◌^◌, ◌<◌, ◌≤◌};
+ghost use Rattle.std.specs.Prelude.{◌≡◌, ◌++◌, min, ◌+◌, ◌-◌, ◌*◌, ◌/◌, ◌%◌, ◌^◌, ◌<◌, ◌≤◌, OnErr};
 ghost use Rattle.bits.specs.Bits.{end, from, to_bits};
 ghost use Rattle.bits.specs.Codec.{got, f, flag};
 ghost use Rattle.bits.specs.Codes.{unary, uvlc, su, leb128};
@@ -14,7 +14,7 @@ use bits::answer::{LIMIT, Refusal};
 use bits::number::*;
 
 // The bits of `bytes` from the place `at` on, counted from the first byte's top bit.
-#[derive(Drop)]
+#[derive(Clone, Copy)]
 pub struct BitReader<'a> {
     pub bytes: &'a [u8],
     pub at: usize,
@@ -112,7 +112,8 @@ impl<'a> BitReader<'a> {
     // f(n); a width over 32, which is that of the value, counts as 32.
     #[tactic(auto, using(crate::proofs::Fields::fields))]
     pub fn f(&mut self, width: u32) -> Result<u32, Refusal>
-        ensures { Said (f (min width 32) 0 0).dec self.old self.new result }
+        ensures said { Said (f (min width 32) 0 0).dec self.old self.new result }
+        ensures kept { OnErr result (self.new.at ≡ self.old.at) }
     {
         let width = smaller(width, 32);
         let at = self.at;
@@ -130,7 +131,8 @@ impl<'a> BitReader<'a> {
     // f(1) as a flag.
     #[tactic(auto, using(crate::proofs::Fields::flags))]
     pub fn flag(&mut self) -> Result<bool, Refusal>
-        ensures { Said flag.dec self.old self.new result }
+        ensures said { Said flag.dec self.old self.new result }
+        ensures kept { OnErr result (self.new.at ≡ self.old.at) }
     {
         let at = self.at;
         if self.rest() == 0 {
@@ -156,9 +158,8 @@ impl<'a> BitReader<'a> {
         Err(Refusal::Inconsistent(element, index))
     }
 
-    // uvlc: L - 1 zeros, and then the value plus 1 in L bits.
     #[tactic(auto, using(crate::proofs::Values::uvlcs))]
-    pub fn uvlc(&mut self, element: u8, index: u8) -> Result<u32, Refusal>
+    fn uvlc_ahead(&mut self, element: u8, index: u8) -> Result<u32, Refusal>
         ensures { Said (uvlc element index).dec self.old self.new result }
     {
         let zeros = self.unary(element, index)?;
@@ -166,19 +167,33 @@ impl<'a> BitReader<'a> {
         Ok(plus_1 - 1)
     }
 
+    // uvlc: L - 1 zeros, and then the value plus 1 in L bits.
+    #[tactic(auto, using(crate::proofs::Reading::turned_back))]
+    pub fn uvlc(&mut self, element: u8, index: u8) -> Result<u32, Refusal>
+        ensures said { Said (uvlc element index).dec self.old self.new result }
+        ensures kept { OnErr result (self.new.at ≡ self.old.at) }
+    {
+        let at = self.at;
+        let got = self.uvlc_ahead(element, index);
+        if got.is_err() {
+            self.at = at;
+        }
+        got
+    }
+
     // su(n); a width over 32, which is that of the value, counts as 32.
     #[tactic(auto, using(crate::proofs::Values::sus))]
     pub fn su(&mut self, width: u32) -> Result<i32, Refusal>
-        ensures { Said (su (min width 32) 0 0).dec self.old self.new result }
+        ensures said { Said (su (min width 32) 0 0).dec self.old self.new result }
+        ensures kept { OnErr result (self.new.at ≡ self.old.at) }
     {
         let width = smaller(width, 32);
         let v = self.f(width)?;
         Ok(su_value(v, width))
     }
 
-    // leb128 in at most eight bytes, the low seven bits first.
     #[tactic(auto, using(crate::proofs::Counting::sizes))]
-    pub fn leb128(&mut self) -> Result<u64, Refusal>
+    fn leb128_ahead(&mut self) -> Result<u64, Refusal>
         ensures { Said (leb128 8).dec self.old self.new result }
     {
         let mut unit: u64 = 1;
@@ -192,5 +207,19 @@ impl<'a> BitReader<'a> {
             unit *= 128;
         }
         Err(Refusal::Size)
+    }
+
+    // leb128 in at most eight bytes, the low seven bits first.
+    #[tactic(auto, using(crate::proofs::Reading::turned_back))]
+    pub fn leb128(&mut self) -> Result<u64, Refusal>
+        ensures said { Said (leb128 8).dec self.old self.new result }
+        ensures kept { OnErr result (self.new.at ≡ self.old.at) }
+    {
+        let at = self.at;
+        let got = self.leb128_ahead();
+        if got.is_err() {
+            self.at = at;
+        }
+        got
     }
 }

@@ -9,4 +9,4 @@ use Rattle.loop_filter_reader.proofs.read.rest.Goals as goal
 
 pub returns : goal.returns
 unfolding rest rest_place
-returns c = begin _ (put_natural _ _ 3 _ _ _ _ (f_of _ _ _ c.in_ok-n.ensures) refl (put_bit _ _ _ _ _ c.in_ok-enabled.ensures (no _ _ _ c.if-enabled.false (rest_kept _ c.kept_deltas.ensures))))
+returns c = begin _ (put_natural _ _ 3 _ _ _ _ (f_of _ _ _ c.in_ok-n.ensures.said) refl (put_bit _ _ _ _ _ c.in_ok-enabled.ensures.said (no _ _ _ c.if-enabled.false (rest_kept _ c.kept_deltas.ensures))))

@@ -7,4 +7,4 @@ use Rattle.quantization_reader.proofs.read.qmatrix.Goals as goal
 
 pub returns : goal.returns
 unfolding qmatrix qmatrix_place
-returns c = begin _ (put_bit _ _ _ _ _ c.in_ok-using.ensures (no _ _ _ c.if-using.false no_matrices))
+returns c = begin _ (put_bit _ _ _ _ _ c.in_ok-using.ensures.said (no _ _ _ c.if-using.false no_matrices))

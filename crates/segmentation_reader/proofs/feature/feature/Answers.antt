@@ -8,8 +8,8 @@ use Rattle.segmentation_reader.proofs.feature.feature.Goals as goal
 
 pub returns-then-enabled : goal.returns-then-enabled
 unfolding feature feature_place
-returns-then-enabled c = begin _ (put_bit _ _ _ _ _ c.in_ok-enabled.ensures (yes _ _ _ c.if-enabled.true (put_value _ _ _ c.in_ok-n.ensures refl)))
+returns-then-enabled c = begin _ (put_bit _ _ _ _ _ c.in_ok-enabled.ensures.said (yes _ _ _ c.if-enabled.true (put_value _ _ _ c.in_ok-n.ensures refl)))
 
 pub returns : goal.returns
 unfolding feature feature_place
-returns c = begin _ (put_bit _ _ _ _ _ c.in_ok-enabled.ensures (no _ _ _ c.if-enabled.false (nothing _ _ _ _ refl)))
+returns c = begin _ (put_bit _ _ _ _ _ c.in_ok-enabled.ensures.said (no _ _ _ c.if-enabled.false (nothing _ _ _ _ refl)))

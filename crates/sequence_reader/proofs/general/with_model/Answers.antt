@@ -10,7 +10,7 @@ unfolding with_model model_rest decoder_model_info
 returns-in_err-model_rest c = search begin_exits depth 14 fits 4000
 
 pub overflow_add-length_minus_1 : goal.overflow_add-length_minus_1
-overflow_add-length_minus_1 c = omega (arith, f_fits 5 0 0 c.in_ok-length_minus_1.ensures)
+overflow_add-length_minus_1 c = omega (arith, f_fits 5 0 0 c.in_ok-length_minus_1.ensures.said)
 
 pub returns : goal.returns
 unfolding with_model model_rest decoder_model_info

@@ -9,7 +9,7 @@ unfolding hint_bits
 returns-then-not-order_hint c = search fill_steps depth 14 fits 4000
 
 pub overflow_add-n : goal.overflow_add-n
-overflow_add-n c = omega (arith, f_fits 3 0 0 c.in_ok-minus_1.ensures)
+overflow_add-n c = omega (arith, f_fits 3 0 0 c.in_ok-minus_1.ensures.said)
 
 pub returns : goal.returns
 unfolding hint_bits

@@ -1,5 +1,0 @@
-use Rattle.reader.proofs.Counting.{sized_on}
-use Rattle.reader.proofs.BitReader.leb128.Goals as goal
-
-pub loop-preserved : goal.loop-preserved
-loop-preserved c = sized_on c.loop.invariant c.loop-test.true c.in_ok-byte.ensures c.if-byte-lt128.false
