@@ -110,5 +110,6 @@ pub fn write_cdef_params(
         at: start(place),
     };
     let walk = cdef_params(&mut w, p, context);
-    settle(walk, &w, place, out)
+    let at = w.at;
+    settle(walk, at, place, &near, out)
 }

@@ -172,5 +172,6 @@ pub fn write_loop_filter_params(
         at: start(place),
     };
     let walk = loop_filter_params(&mut w, p, context);
-    settle(walk, &w, place, out)
+    let at = w.at;
+    settle(walk, at, place, &near, out)
 }

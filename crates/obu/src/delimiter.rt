@@ -10,7 +10,8 @@ use crate::write::*;
 use bits::answer::*;
 use writer::BitWriter;
 
-// Its walk: a header of type 2 and, if flagged, a size of 0.
+// Its walk: a header of type 2 and, if flagged, a size of 0. (In line, with all that it writes: so the writer's place stays out of memory.)
+#[inline(always)]
 fn temporal_delimiter(w: &mut BitWriter, header: ObuHeader) -> Result<(), Refusal>
     ensures { Walked (temporal_delimiter header) w.old w.new result }
 {

@@ -10,6 +10,7 @@ use bits::element::*;
 use writer::BitWriter;
 
 // A bit that is always 0.
+#[inline(always)]
 fn zero(w: &mut BitWriter) -> Result<(), Refusal>
     ensures { Walked (unsigned 1 0 0 0) w.old w.new result }
 {
@@ -17,6 +18,7 @@ fn zero(w: &mut BitWriter) -> Result<(), Refusal>
 }
 
 // obu_type, which must be t.
+#[inline(always)]
 fn expected_type(w: &mut BitWriter, obu_type: u32, t: u32) -> Result<(), Refusal>
     ensures { Walked ((expected_type t).enc obu_type) w.old w.new result }
 {
@@ -27,6 +29,7 @@ fn expected_type(w: &mut BitWriter, obu_type: u32, t: u32) -> Result<(), Refusal
 }
 
 // 5.3.3
+#[inline(always)]
 fn obu_extension_header(w: &mut BitWriter, h: ObuHeader) -> Result<(), Refusal>
     ensures { Walked (obu_extension_header.enc (extension_of h)) w.old w.new result }
 {
@@ -36,6 +39,7 @@ fn obu_extension_header(w: &mut BitWriter, h: ObuHeader) -> Result<(), Refusal>
 }
 
 // The header from obu_has_size_field on.
+#[inline(always)]
 fn header_end(w: &mut BitWriter, h: ObuHeader) -> Result<(), Refusal>
     ensures { Walked ((header_end h.extension_flag).enc (end_of h)) w.old w.new result }
 {
@@ -48,6 +52,7 @@ fn header_end(w: &mut BitWriter, h: ObuHeader) -> Result<(), Refusal>
 }
 
 // 5.3.2, of an OBU that is to have the type t.
+#[inline(always)]
 pub fn obu_header(w: &mut BitWriter, h: ObuHeader, t: u32) -> Result<(), Refusal>
     ensures { Walked ((obu_header t).enc h) w.old w.new result }
 {
@@ -58,6 +63,7 @@ pub fn obu_header(w: &mut BitWriter, h: ObuHeader, t: u32) -> Result<(), Refusal
 }
 
 // The size, if flagged.
+#[inline(always)]
 pub fn obu_size(w: &mut BitWriter, has_size_field: bool, size: u32) -> Result<(), Refusal>
     ensures { Walked (obu_size has_size_field size) w.old w.new result }
 {

@@ -147,14 +147,14 @@ agree done bs place xs ns m l = rw (le-ltb 65536 (length near) (omega (arith, n)
     go false false h l =
         ap (λ (ys : List ℕ). record { answer = Ok (place + length bs); bytes = ys }) (back xs ns place bs (ltb-false 65536 (length xs) h) (ltb-false (length xs * 8) (place + length bs) l) m)
 
--- One walk of a part, over the array, and what comes of it.
+-- One walk of a part, over the array, and what comes of it: ms is what the array holds then.
 module _ {n : ℕ} {w : Walk} (xs : List ℕ) (place : ℕ) {c d : BitWriter} {s : Step} (g : Walked w c d s) (b : c.at ≡ place % 8) (m : c.out.now ≡ lent xs place (replicate n 0)) (F : Near n w) where
   at-end : d.at ≡ place % 8 + length (run w).bits
   at-end = let p : d.at ≡ forward (place % 8) (length (run w).bits) = rw b at (walked_to g) in omega (arith, p, bounded w, F.most, F.size)
 
-  pub once : {a : Answer} {ys : List ℕ} → Settles s d.at place d.out.now xs a ys → Writes w place xs a ys
+  pub once : {a : Answer} {ys ms : List ℕ} → Settles s d.at place ms xs a ys → ms ≡ d.out.now → Writes w place xs a ys
   unfolding settled written
-  once (settles p q) =
+  once {ms = ms} (settles p q) l =
       let e = agree (run w).end (run w).bits place xs (replicate n 0) (omega (arith, bounded w, F.most, length-replicate {A = ℕ} n 0)) (omega (arith, F.size, length-replicate {A = ℕ} n 0)) in
-      let f : settled s d.at place d.out.now xs ≡ written w place xs = rw (bytes g, m, answered g, b, at-end) e in
+      let f : settled s d.at place ms xs ≡ written w place xs = rw (l, bytes g, m, answered g, b, at-end) e in
       writes (p ∙ ap (λ (u : Written). u.answer) f) (q ∙ ap (λ (u : Written). u.bytes) f)

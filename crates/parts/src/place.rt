@@ -3,7 +3,6 @@ ghost use Rattle.std.specs.Prelude.{◌≡◌, ◌%◌};
 ghost use Rattle.parts.specs.Settled.{lent, Settles};
 
 use bits::answer::*;
-use writer::BitWriter;
 
 // What such an array has beside the part's most bits, in whole words of eight bytes: the bits before the place, and a store of eight bytes behind the part.
 pub const SPARE_BITS: usize = 7 + 64 + 63;
@@ -34,22 +33,22 @@ pub fn start(place: u32) -> usize
     (place % 8) as usize
 }
 
-// What a walk over that array came to: its refusal, or its bytes put back into `out`.
+// What a walk over that array came to: its refusal, or the array's bytes up to the bit `at` put back into `out`.
 pub fn settle(
     walk: Result<(), Refusal>,
-    near: &BitWriter,
+    at: usize,
     place: u32,
+    near: &[u8],
     out: &mut [u8],
 ) -> Result<u32, Refusal>
-    ensures { Settles walk near.now.at place near.now.out.now out.old result out.new }
+    ensures { Settles walk at place near.now out.old result out.new }
 {
     let len = out.len();
     if 65536 < len {
         return Err(Refusal::Long);
     }
     walk?;
-    let at = near.at;
-    let room = near.out.len();
+    let room = near.len();
     if 65536 < room {
         return Err(Refusal::Long);
     }
@@ -62,6 +61,6 @@ pub fn settle(
     if len * 8 < end {
         return Err(Refusal::Short((first + count) as u32));
     }
-    bits::slice::copy(&near.out[..count], &mut out[first..]);
+    bits::slice::copy(&near[..count], &mut out[first..]);
     Ok(end as u32)
 }

@@ -159,7 +159,8 @@ pub fn write_given(
         at: start(place),
     };
     let walk = quantization_params(&mut w, q, d, context);
-    settle(walk, &w, place, out)
+    let at = w.at;
+    settle(walk, at, place, &near, out)
 }
 
 // The part written from the bit `place` of `out` on.

@@ -153,5 +153,6 @@ pub fn write_lr_params(
         at: start(place),
     };
     let walk = lr_params(&mut w, p, context);
-    settle(walk, &w, place, out)
+    let at = w.at;
+    settle(walk, at, place, &near, out)
 }

@@ -138,5 +138,6 @@ pub fn write_segmentation_params(
         at: start(place),
     };
     let walk = segmentation_params(&mut w, p, context);
-    settle(walk, &w, place, out)
+    let at = w.at;
+    settle(walk, at, place, &near, out)
 }

@@ -147,13 +147,15 @@ pub fn write_sequence_header(record: SequenceHeaderObu, out: &mut [u8]) -> Resul
     if 65536 < out.len() {
         return Err(Refusal::Long);
     }
+    let mut head_bytes = [0; 10];
     let mut head = BitWriter {
-        out: &mut [0; 10],
+        out: &mut head_bytes,
         at: 0,
     };
     header(&mut head, record.obu_header)?;
+    let mut payload_bytes = [0; PAYLOAD_ROOM];
     let mut payload = BitWriter {
-        out: &mut [0; PAYLOAD_ROOM],
+        out: &mut payload_bytes,
         at: 0,
     };
     padded_payload(&mut payload, record)?;
@@ -161,5 +163,5 @@ pub fn write_sequence_header(record: SequenceHeaderObu, out: &mut [u8]) -> Resul
     let sized = record.obu_header.has_size_field;
     obu_size(&mut head, sized, capped(second))?;
     let first = head.at / 8;
-    write_strings(&head.out[..first], &payload.out[..second], out)
+    write_strings(&head_bytes[..first], &payload_bytes[..second], out)
 }
