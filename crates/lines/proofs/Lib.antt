@@ -1,4 +1,5 @@
 pub mod Hexes
 pub mod RoundTrip
+pub mod Signs
 pub mod Texts
 pub mod Uppers

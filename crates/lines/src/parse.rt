@@ -1,5 +1,5 @@
 // Words, numbers and bytes out of a line.
-ghost use Rattle.std.specs.Prelude.{◌≡◌, ◌<◌, ◌^◌, length, IfSome};
+ghost use Rattle.std.specs.Prelude.{◌≡◌, ◌<◌, ◌≤◌, ◌+◌, ◌^◌, length, IfSome};
 ghost use Rattle.lines.specs.Hex.{Hexed, byte as hex_byte};
 ghost use Rattle.std.specs.Iterator.{at_most};
 ghost use Rattle.lines.specs.Text as form;
@@ -20,6 +20,9 @@ impl<'a> Iterator for Words<'a> {
     type Item = &'a [u8];
 
     ghost remaining = { λ w. at_most (length w.rest.now) };
+
+    // A word, and what is left behind it, lie in what was left.
+    ghost next_gives = { λ old word new. IfSome word (λ w. length w.now + length new.rest.now ≤ length old.rest.now) };
 
     fn next(&mut self) -> Option<&'a [u8]> {
         let start = self.rest.iter().position(|b| *b != b' ')?;

@@ -1,5 +1,6 @@
 // One row: place, width, name and value, in columns. A field that is not coded has `-` for place and width, and a mark that says where its value is from.
-ghost use Rattle.std.specs.Prelude.{◌≤◌};
+ghost use Rattle.std.specs.Prelude.{◌≡◌, ◌≤◌, length, take};
+ghost use Rattle.lines.specs.Signed.{signed};
 
 use bits::answer::LIMIT;
 use lines::answer::Text;
@@ -21,15 +22,27 @@ const MARK: usize = 74;
 // The longest line: a mark and its end.
 const LINE: usize = 83;
 
+// The longest number: a sign and twenty digits.
+const DIGITS: usize = 21;
+
+// A number's text, at the start of an array; its length.
+fn put_digits(digits: &mut [u8; DIGITS], n: Number) -> usize
+    ensures length { result ≡ length (signed n) }
+    ensures room { result ≤ 21 }
+    ensures text { take result «digits».new ≡ signed n }
+{
+    let mut out = Text::new(digits);
+    n.put(&mut out);
+    out.written().len()
+}
+
 // A number that ends before a column.
 pub fn put_right(line: &mut [u8], end: usize, n: Number) {
-    let mut digits = [0u8; 21];
-    let mut out = Text::new(&mut digits);
-    n.put(&mut out);
-    let digits = out.written();
-    if digits.len() <= end {
-        if let Some(room) = line.get_mut(end - digits.len()..end) {
-            room.copy_from_slice(digits);
+    let mut digits = [0u8; DIGITS];
+    let count = put_digits(&mut digits, n);
+    if count <= end {
+        if let Some(room) = line.get_mut(end - count..end) {
+            room.copy_from_slice(&digits[..count]);
         }
     }
 }

@@ -1,5 +1,5 @@
 -- A number in decimal: its last digit behind the others.
-use Rattle.std.proofs.Common.{◌≡◌, refl, sym, ◌∙◌, ℕ, ◌+◌, ◌/◌, ◌%◌, ◌^◌, ◌≤◌, ◌<◌, Bool, true, false, ltb, zero, suc, [], ◌∷◌, ◌++◌, arith}
+use Rattle.std.proofs.Common.{◌≡◌, refl, sym, ◌∙◌, ℕ, ◌+◌, ◌/◌, ◌%◌, ◌^◌, ◌≤◌, ◌<◌, Bool, true, false, ltb, zero, suc, [], ◌∷◌, ◌++◌, length, length-append, arith}
 use Rattle.std.proofs.lemmas.Bool.Decides.{nat_tests}
 use native.Mathlib.Nat.{pow-suc}
 use borrow.Author.Tests.{ltb-true, ltb-false}
@@ -27,3 +27,12 @@ one_digit n h = sym (small 19 n h)
 
 pub last_digit : (n : ℕ) → 10 ≤ n → n < 2 ^ 64 → decimal (n / 10) ++ ((48 + n % 10) ∷ []) ≡ decimal n
 last_digit n h k = rw (large 19 n h, more 18 (n / 10) (ltb (n / 10) 10) refl (omega arith))
+
+-- a number of 64 bits has twenty digits at most
+digits_fit : (k n : ℕ) → length (digits k n) ≤ k
+unfolding digits
+digits_fit zero n = omega arith
+digits_fit (suc k) n = grind (arith, nat_tests, length-append {A = ℕ}, digits_fit k (n / 10))
+
+pub decimal_fits : (n : ℕ) → length (decimal n) ≤ 20
+decimal_fits n = digits_fit 20 n

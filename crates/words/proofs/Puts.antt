@@ -1,5 +1,5 @@
 -- Bytes that are put behind a text, one after the other.
-use Rattle.std.proofs.Common.{◌≡◌, ◌∙◌, ap, ℕ, ◌+◌, ◌≤◌, List, ◌++◌, length, take, drop, append_assoc, arith, length-append}
+use Rattle.std.proofs.Common.{◌≡◌, sym, ◌∙◌, ap, ℕ, ◌+◌, ◌≤◌, List, ◌++◌, length, take, drop, append_assoc, arith, length-append}
 use Rattle.std.proofs.Math.Seq.{paste, take-paste, drop-paste, drop-drop, take-length}
 use Rattle.words.specs.declared.put.Text.{Text}
 use Rattle.words.specs.Puts.{Puts}
@@ -29,3 +29,16 @@ pub written : {a b : Text} {s : List ℕ} → Puts a s b → a.at ≡ 0 → leng
 written {a} {b} {s} p z h =
     let q = p.put (omega arith) in
     rw (q.0, q.1, take-paste a.out.now a.at s (length s) (omega arith) (omega arith), z, take-length s)
+
+-- by its length
+pub front : {a b : Text} {s : List ℕ} → Puts a s b → a.at ≡ 0 → length s ≤ length a.out.now → take (length (take b.at b.out.now)) b.out.now ≡ s
+front {a} {b} {s} p z h =
+    let w = written p z h in
+    let q = p.put (omega arith) in
+    let l : b.at ≡ length s = omega (arith, q.0, z) in
+    rw w (rw l at w)
+
+-- in the slice, where whoever lent it finds it
+pub lent : {a b : Text} {s : List ℕ} {n : ℕ} {e : _} → Puts a s b → a.at ≡ 0 → length s ≤ length a.out.now → a.out.ghost_name ≡ e
+    → (g : (x : List ℕ) × ((length x ≡ n) × (e ≡ b.out.ghost_name → x ≡ b.out.now))) → take (length (take b.at b.out.now)) g.0 ≡ s
+lent p z h i g = rw (g.1.1 (sym i ∙ sym p.same_slice)) (front p z h)

@@ -33,7 +33,7 @@ pub fn explain(answer: &[u32; 4], text: &mut [u8]) -> u32
     let mut whole = [0u8; 104];
     let mut out = Text::new(&mut whole);
     sentence(&mut out, answer);
-    let whole = out.written();
-    cut(whole, text);
-    whole.len() as u32
+    let length = out.written().len();
+    cut(&whole[..length], text);
+    length as u32
 }

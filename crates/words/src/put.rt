@@ -1,12 +1,27 @@
 // Text, put together in a lent slice.
 ghost use Rattle.std.specs.Prelude.{◌≤◌, length};
+ghost use Rattle.words.specs.Text.{Put};
 
 // The slice, and the place in it where the text so far ends.
 #[derive(Drop)]
 pub struct Text<'a> {
-    out: &'a mut [u8],
-    at: usize,
+    pub out: &'a mut [u8],
+    pub at: usize,
     ghost in_slice: { at ≤ length out.now },
+}
+
+// The bytes of s, put from a place on; the place behind them. (By a loop, which over a known text is compiled to a few stores.)
+#[tactic(auto, using(std::proofs::lemmas::List::Edits::paste_more))]
+fn put(out: &mut [u8], at: usize, s: &[u8]) -> usize
+    requires { at ≤ length out.old }
+    ensures put { Put out.old at s.now result out.new }
+    ensures inside { result ≤ length out.new }
+{
+    let n = s.len().min(out.len() - at);
+    for i in 0..n {
+        out[at + i] = s[i];
+    }
+    at + n
 }
 
 // Each method puts its bytes behind the text so far, and drops what the slice has no room for. (No `fmt::Write`: after an `Err` its contract says nothing.)
@@ -43,9 +58,7 @@ impl<'a> Text<'a> {
     pub fn text(&mut self, s: &[u8])
         ensures { Puts self.old s.now self.new }
     {
-        for b in s {
-            self.byte(*b);
-        }
+        self.at = put(self.out, self.at, s);
     }
 
     pub fn decimal(&mut self, n: u64)
