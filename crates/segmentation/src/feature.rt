@@ -1,5 +1,6 @@
 // The eight features of a segment: the bits and the limit of each one's value.
 ghost use Rattle.std.specs.Prelude.{◌≡◌, ◌<◌, ◌≤◌, pos, ◌≤ℤ◌};
+ghost use Rattle.parts.specs.Codes.{clip};
 ghost use Rattle.segmentation.specs.Segmentation.{feature_bits, feature_max};
 
 const FEATURE_BITS: [u32; 8] = [8, 6, 6, 6, 6, 3, 0, 0];
@@ -20,4 +21,18 @@ pub fn feature_max(j: usize) -> i16
     ensures lower_bound { pos 0 ≤ℤ result }
 {
     FEATURE_MAX[j]
+}
+
+// Clip3: x, held between low and high; low first, where they are out of order. (std's `clamp` asks that they are in order.)
+#[tactic(auto, unfolding(parts::specs::Codes::clip))]
+pub fn clip3(low: i16, high: i16, x: i16) -> i16
+    ensures { result ≡ clip low high x }
+{
+    if x < low {
+        low
+    } else if high < x {
+        high
+    } else {
+        x
+    }
 }
