@@ -1,5 +1,5 @@
 // Words, numbers and bytes out of a line.
-ghost use Rattle.std.specs.Prelude.{◌≡◌, ◌<◌, ◌≤◌, ◌+◌, ◌^◌, length, IfSome};
+ghost use Rattle.std.specs.Prelude.{◌≡◌, ◌<◌, ◌≤◌, ◌+◌, ◌^◌, ◌++◌, List, ℕ, length, IfSome};
 ghost use Rattle.lines.specs.Hex.{Hexed, byte as hex_byte};
 ghost use Rattle.std.specs.Iterator.{at_most};
 ghost use Rattle.lines.specs.Text as form;
@@ -21,8 +21,8 @@ impl<'a> Iterator for Words<'a> {
 
     ghost remaining = { λ w. at_most (length w.rest.now) };
 
-    // A word, and what is left behind it, lie in what was left.
-    ghost next_gives = { λ old word new. IfSome word (λ w. length w.now + length new.rest.now ≤ length old.rest.now) };
+    // A word, and what is left behind it, are the end of what was left.
+    ghost next_gives = { λ old word new. IfSome word (λ w. (before : List ℕ) × (old.rest.now ≡ before ++ (w.now ++ new.rest.now))) };
 
     fn next(&mut self) -> Option<&'a [u8]> {
         let start = self.rest.iter().position(|b| *b != b' ')?;
